@@ -1,0 +1,1 @@
+// Formulas: their text and reading, their meaning, and the rules on them.

@@ -1,0 +1,4 @@
+pub mod Theory
+pub mod Steps
+pub mod Replay
+pub mod Answer

@@ -1,0 +1,82 @@
+-- The replay of a derivation's lines, with 10 to 15; footer 16, ground clauses 17; the ground text.
+use Prim.Native.Nat.{ℕ, suc, zero, _+_}
+use mathlib.Core.List.{List, [], _∷_, _++_}
+use mathlib.Core.Bool.{Bool, true, false, _&&_}
+use lib.ListN.{length}
+use Rattle.text.specs.Bytes.{Bytes, bytes, same}
+use Rattle.text.specs.Outcome.{Outcome, done, refused, mapped, provided, _>>=_, _>>_}
+use Rattle.text.specs.Reading.{Reader, give, refuse, judge}
+use Rattle.text.specs.Reading as reading
+use Rattle.text.specs.Lines.{Judged, refusal, onLine, readText}
+use Rattle.text.specs.Problem.{Problem}
+use Rattle.text.specs.Derivation.{Line, step, footer, readLine, readVersion, readGrounder}
+use Rattle.formula.specs.Formula.{Formula}
+use Rattle.formula.specs.Text.{textOf}
+use Rattle.formula.specs.Normal.{isClause}
+use Rattle.replay.specs.Theory.{formulasOf, namesOf, State, live, ended, liveTheory, initial, stepped}
+
+-- before the version line; before the grounder's; among the rule lines, of which so many are done; after the footer
+pub data Place : Type 0 where
+  top heading : Place
+  among : State → ℕ → Place
+  bottom : State → ℕ → List ℕ → Place
+
+-- what a derivation comes to: the last state, the count of rule lines, the footer's names
+pub record Replayed : Type 0 where
+  pub last : State
+  pub rules : ℕ
+  pub final : List ℕ
+
+abbrev pub lineDone : Problem → State → ℕ → Line → Outcome ℕ Place
+lineDone P s rules (step l) = mapped (λ u. among u (suc rules)) (stepped P s l)
+lineDone P s rules (footer names) = done (bottom s rules names)
+
+unfoldable pub derivationLine : Problem → List Formula → Place → Reader Place
+derivationLine P T top = reading._>>_ readVersion (give heading)
+derivationLine P T heading = reading._>>_ readGrounder (give (among (initial T) 0))
+derivationLine P T (among s rules) = reading._>>=_ readLine λ l. judge (lineDone P s rules l)
+derivationLine P T (bottom s rules names) = refuse 10
+
+abbrev pub wholeDerivation : Place → Outcome ℕ Replayed
+wholeDerivation top = refused 10
+wholeDerivation heading = refused 10
+wholeDerivation (among s rules) = refused 10
+wholeDerivation (bottom s rules names) = done (record { last = s; rules = rules; final = names })
+
+-- a theory's derivation, read and replayed line by line
+unfoldable pub derivationOf : Problem → List Formula → Bytes → Judged Replayed
+derivationOf P T s = readText 3 (derivationLine P T) wholeDerivation top s
+
+-- The end.
+
+abbrev pub areClauses : Problem → List Formula → Bool
+areClauses P [] = true
+areClauses P (f ∷ fs) = isClause P f && areClauses P fs
+
+-- ground clauses; after UNSAT the one formula `false` stands instead
+abbrev pub isGround : Problem → State → Bool
+isGround P (live t used) = areClauses P (formulasOf t)
+isGround P (ended n used) = true
+
+-- one formula a line, without names
+abbrev pub theoryText : List Formula → Bytes
+theoryText [] = []
+theoryText (f ∷ fs) = textOf f ++ (bytes "\n" ++ theoryText fs)
+
+-- the final formulas, and how many rule lines led to them
+pub record Ground : Type 0 where
+  pub formulas : List Formula
+  pub rules : ℕ
+
+abbrev pub groundText : Ground → Bytes
+groundText G = theoryText (G .formulas)
+
+-- the footer's line, behind two lines of heading
+abbrev pub footerLine : Replayed → ℕ
+footerLine D = D .rules + 3
+
+unfoldable pub groundOf : Problem → Replayed → Judged Ground
+groundOf P D =
+    provided (same (D .final) (namesOf (liveTheory (D .last)))) (refusal 16 3 (footerLine D))
+    >> (provided (isGround P (D .last)) (refusal 17 3 (footerLine D))
+    >> done (record { formulas = formulasOf (liveTheory (D .last)); rules = D .rules }))

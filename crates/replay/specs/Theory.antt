@@ -1,0 +1,142 @@
+-- The theory's text and names; the rule lines on it, with 11 to 15.
+use Prim.Native.Nat.{ℕ, suc, zero}
+use mathlib.Core.List.{List, [], _∷_, _++_, map}
+use mathlib.Core.Bool.{Bool, true, false, cond, _&&_}
+use lib.Dec.{eqb, ltb}
+use lib.ListN.{length}
+use Rattle.text.specs.Sizes.{levelCount}
+use Rattle.text.specs.Bytes.{Bytes, bytes}
+use Rattle.text.specs.Outcome.{Outcome, done, refused, mapped, provided, _>>=_, _>>_}
+use Rattle.text.specs.Reading.{Reader, give, require, word}
+use Rattle.text.specs.Reading as reading
+use Rattle.text.specs.Lines.{Judged, readText}
+use Rattle.text.specs.Problem.{Problem}
+use Rattle.text.specs.Derivation.{Position, RuleLine, rewrite, unsat, trivial, splitc}
+use Rattle.formula.specs.Formula.{Formula, truth, Formulas, noParts, part, Side, all, any}
+use Rattle.formula.specs.Reading.{readFormula}
+use Rattle.formula.specs.Names.{namesFit}
+use Rattle.formula.specs.Normal.{isGNF}
+use Rattle.formula.specs.Limits.{limitsFit, sizesFit}
+use Rattle.formula.specs.Rules.{onJunction, isTruth, apply, at}
+
+-- Its text: one formula a line, with 5 to 9.
+
+unfoldable pub theoryLine : Problem → List Formula → Reader (List Formula)
+theoryLine P fs =
+    reading._>>=_ (readFormula levelCount) λ f.  -- 5, 6
+    reading._>>_ (word 5 (bytes "\n"))  -- 5
+    (reading._>>_ (require 7 (namesFit P f))
+    (reading._>>_ (require 8 (isGNF P f))
+    (reading._>>_ (require 9 (limitsFit (fs ++ (f ∷ []))))
+    (give (fs ++ (f ∷ []))))))
+
+-- the theory that a text is
+unfoldable pub theoryOf : Problem → Bytes → Judged (List Formula)
+theoryOf P s = readText 2 (theoryLine P) done [] s
+
+-- Named formulas.
+
+pub record Entry : Type 0 where
+  pub name : ℕ
+  pub formula : Formula
+
+abbrev pub entry : ℕ → Formula → Entry
+entry n f = record { name = n; formula = f }
+
+abbrev pub Theory : Type 0
+Theory = List Entry
+
+abbrev pub formulasOf : Theory → List Formula
+formulasOf t = map (λ e. e .formula) t
+
+abbrev pub namesOf : Theory → List ℕ
+namesOf t = map (λ e. e .name) t
+
+-- named 1, 2, 3 and so on
+abbrev pub numbered : ℕ → List Formula → Theory
+numbered n [] = []
+numbered n (f ∷ fs) = entry n f ∷ numbered (suc n) fs
+
+-- the live formulas with the greatest name used; after UNSAT, the name of the one formula `false`
+pub data State : Type 0 where
+  live : Theory → ℕ → State
+  ended : ℕ → ℕ → State
+
+abbrev pub liveTheory : State → Theory
+liveTheory (live t top) = t
+liveTheory (ended n top) = entry n (truth false) ∷ []
+
+abbrev pub greatestUsed : State → ℕ
+greatestUsed (live t top) = top
+greatestUsed (ended n top) = top
+
+abbrev pub initial : List Formula → State
+initial fs = live (numbered 1 fs) (length fs)
+
+-- Rule lines.
+
+-- the formula of a name gives way to what is made of it, in its place in the list; 11 where the name is not live
+abbrev pub inPlace : ℕ → (Formula → Outcome ℕ Theory) → Theory → Outcome ℕ Theory
+inPlace n k [] = refused 11
+inPlace n k (e ∷ es) =
+    let here = mapped (λ ts. ts ++ es) (k (e .formula)) in
+    let there = mapped (λ ts. e ∷ ts) (inPlace n k es) in
+    cond (eqb (e .name) n) here there
+
+-- no rule fits after UNSAT
+abbrev pub unlessEnded : {A : Type 0} → State → (Formula → Outcome ℕ A) → Formula → Outcome ℕ A
+unlessEnded (live t top) k f = k f
+unlessEnded (ended n top) k f = refused 13
+
+-- a rule that takes no path
+abbrev pub wholeOnly : {A : Type 0} → List ℕ → (Formula → Outcome ℕ A) → Formula → Outcome ℕ A
+wholeOnly [] k f = k f
+wholeOnly (i ∷ is) k f = at (i ∷ is) (λ h. refused 13) f >>= λ h. refused 13
+
+-- TRIVIAL: a formula `true` is removed
+abbrev pub removed : Formula → Outcome ℕ Theory
+removed f = mapped (λ u. []) (provided (isTruth true f) 13)
+
+-- UNSAT: a formula that is `false`
+abbrev pub refuted : Formula → Outcome ℕ Theory
+refuted f = mapped (λ u. []) (provided (isTruth false f) 13)
+
+-- SPLITC: an `&` of one or more parts, by its parts under the new names, as many as parts
+abbrev pub namedParts : List ℕ → Formulas → Outcome ℕ Theory
+namedParts [] noParts = done []
+namedParts [] (part f fs) = refused 13
+namedParts (n ∷ ns) noParts = refused 13
+namedParts (n ∷ ns) (part f fs) = mapped (λ ts. entry n f ∷ ts) (namedParts ns fs)
+
+abbrev pub splitParts : List ℕ → Side → Formulas → Outcome ℕ Theory
+splitParts names all noParts = refused 13
+splitParts names all (part f fs) = namedParts names (part f fs)
+splitParts names any fs = refused 13
+
+abbrev pub split : List ℕ → Formula → Outcome ℕ Theory
+split names f = onJunction (refused 13) (splitParts names) f
+
+-- each new name is greater than every name used before it
+abbrev pub climbing : ℕ → List ℕ → Bool
+climbing top [] = true
+climbing top (n ∷ ns) = ltb top n && climbing n ns
+
+abbrev pub highest : ℕ → List ℕ → ℕ
+highest top [] = top
+highest top (n ∷ ns) = highest n ns
+
+-- 15: the live formulas within their sizes
+abbrev pub within : ℕ → Theory → Outcome ℕ State
+within top t = mapped (λ u. live t top) (provided (sizesFit (formulasOf t)) 15)
+
+-- a rule line on a state: 11 for the target, then for new names; 12; 13, 14; 15
+unfoldable pub stepped : Problem → State → RuleLine → Outcome ℕ State
+stepped P s (rewrite r p) =
+    inPlace (p .name) (λ f. mapped (λ h. entry (p .name) h ∷ []) (at (p .path) (unlessEnded s (apply P r)) f)) (liveTheory s)
+    >>= within (greatestUsed s)
+stepped P s (trivial p) = inPlace (p .name) (wholeOnly (p .path) (unlessEnded s removed)) (liveTheory s) >>= within (greatestUsed s)
+stepped P s (splitc p names) =
+    inPlace (p .name) (λ f. provided (climbing (greatestUsed s) names) 11 >> wholeOnly (p .path) (unlessEnded s (split names)) f) (liveTheory s)
+    >>= within (highest (greatestUsed s) names)
+stepped P s (unsat p) =
+    inPlace (p .name) (wholeOnly (p .path) (unlessEnded s refuted)) (liveTheory s) >>= λ t. done (ended (p .name) (greatestUsed s))

@@ -1,0 +1,1 @@
+// Theories, the replay of a derivation, and the answers of the jobs.
