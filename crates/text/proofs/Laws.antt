@@ -1,0 +1,28 @@
+-- Laws of truth values and of equal bytes that the kit lacks.
+-- Assumes nothing.
+use Prim.Native.Nat.{ℕ}
+use mathlib.Core.Path.{_≡_, refl, ap₂}
+use mathlib.Core.List.{List, [], _∷_}
+use mathlib.Core.Bool.{Bool, true, false, cond, _&&_, false≢true}
+use lib.Dec.{eqb}
+use borrow.Author.Tests.{eqb-true, eq-eqb}
+use Rattle.text.specs.Bytes.{Bytes, same}
+
+pub and-left : (a b : Bool) → (a && b) ≡ true → a ≡ true
+and-left true b e = refl
+and-left false b e = e
+
+pub and-right : (a b : Bool) → (a && b) ≡ true → b ≡ true
+and-right true b e = e
+and-right false b e = absurd (false≢true e)
+
+pub same-refl : (s : Bytes) → same s s ≡ true
+same-refl [] = refl
+same-refl (b ∷ s) = ap₂ _&&_ (eq-eqb b b refl) (same-refl s)
+
+pub same-true : (s t : Bytes) → same s t ≡ true → s ≡ t
+same-true [] [] e = refl
+same-true [] (b ∷ t) e = absurd (false≢true e)
+same-true (a ∷ s) [] e = absurd (false≢true e)
+same-true (a ∷ s) (b ∷ t) e =
+    ap₂ (λ (k : ℕ) (ks : Bytes). k ∷ ks) (eqb-true a b (and-left (eqb a b) (same s t) e)) (same-true s t (and-right (eqb a b) (same s t) e))
