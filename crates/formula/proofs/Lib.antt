@@ -1,0 +1,5 @@
+pub mod Meaning
+pub mod Substitution
+pub mod Agreement
+pub mod Rules
+pub mod Tables

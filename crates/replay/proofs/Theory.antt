@@ -1,0 +1,53 @@
+-- What is true of each formula of a theory, and what a theory means, where one formula gives way to others in its place.
+-- Assumes nothing.
+use Prim.Native.Nat.{ℕ}
+use mathlib.Core.Path.{_≡_, refl, sym, ap, _∙_}
+use mathlib.Core.List.{List, [], _∷_, _++_}
+use mathlib.Core.Bool.{Bool, true, false, _&&_, and-assoc, and-false}
+use Rattle.formula.specs.Formula.{Formula, Formulas, noParts, part, all}
+use Rattle.formula.specs.Meaning.{Structure, nowhere, holds, truths, joinAll, satisfies}
+use Rattle.replay.specs.Theory.{Entry, entry, Theory, formulasOf}
+use Rattle.replay.specs.Steps.{Named, nobody, somebody}
+
+-- each formula of a list; each part
+abbrev pub Every : (Formula → Type 0) → List Formula → Type 0
+Every Q [] = Unit {0}
+Every Q (f ∷ fs) = Q f × Every Q fs
+
+abbrev pub EveryPart : (Formula → Type 0) → Formulas → Type 0
+EveryPart Q noParts = Unit {0}
+EveryPart Q (part f fs) = Q f × EveryPart Q fs
+
+module _ (Q : Formula → Type 0) where
+  pub every-append : (t u : Theory) → Every Q (formulasOf t) → Every Q (formulasOf u) → Every Q (formulasOf (t ++ u))
+  every-append [] u p q = q
+  every-append (e ∷ es) u p q = (p .0, every-append es u (p .1) q)
+
+  pub every-front : (t u : Theory) → Every Q (formulasOf (t ++ u)) → Every Q (formulasOf t)
+  every-front [] u p = tt
+  every-front (e ∷ es) u p = (p .0, every-front es u (p .1))
+
+  pub every-back : (t u : Theory) → Every Q (formulasOf (t ++ u)) → Every Q (formulasOf u)
+  every-back [] u p = p
+  every-back (e ∷ es) u p = every-back es u (p .1)
+
+  pub every-named : (ns : List ℕ) (fs : Formulas) (ts : Theory) → Named ns fs ts → EveryPart Q fs → Every Q (formulasOf ts)
+  every-named ns fs ts nobody p = tt
+  every-named ns fs ts (somebody n ms f hs us w) p = (p .0, every-named ms hs us w (p .1))
+
+module _ (S : Structure) where
+  pub satisfies-append : (t u : Theory) → satisfies S (formulasOf (t ++ u)) ≡ (satisfies S (formulasOf t) && satisfies S (formulasOf u))
+  satisfies-append [] u = refl
+  satisfies-append (e ∷ es) u =
+      ap (λ (b : Bool). holds S nowhere (e .formula) && b) (satisfies-append es u)
+      ∙ sym (and-assoc (holds S nowhere (e .formula)) (satisfies S (formulasOf es)) (satisfies S (formulasOf u)))
+
+  -- formulas that mean the same, in the same place
+  pub satisfies-around : (before t u after : Theory) → satisfies S (formulasOf t) ≡ satisfies S (formulasOf u)
+      → satisfies S (formulasOf (before ++ (t ++ after))) ≡ satisfies S (formulasOf (before ++ (u ++ after)))
+  satisfies-around before t u after e = rw (satisfies-append before (t ++ after), satisfies-append t after, satisfies-append before (u ++ after), satisfies-append u after, e)
+
+  pub satisfies-named : (ns : List ℕ) (fs : Formulas) (ts : Theory) → Named ns fs ts → joinAll all (truths S nowhere fs) ≡ satisfies S (formulasOf ts)
+  unfolding truths
+  satisfies-named ns fs ts nobody = refl
+  satisfies-named ns fs ts (somebody n ms f hs us w) = ap (λ (b : Bool). holds S nowhere f && b) (satisfies-named ms hs us w)

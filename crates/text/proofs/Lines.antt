@@ -1,0 +1,192 @@
+-- A text read line by line: what every line keeps holds at the end, and what is read is a run of lines; by induction on the bound.
+-- And the place and the bytes of a refused line, by induction on the text.
+-- Assumes nothing.
+use Prim.Native.Nat.{ℕ, suc, zero, _+_, _≤_, _<_, max}
+use native.Mathlib.Omega.{arith}
+use mathlib.Core.Path.{_≡_, refl, ap}
+use mathlib.Core.Logic.{_↔_}
+use mathlib.Core.List.{List, [], _∷_, _++_}
+use mathlib.Core.Bool.{Bool, true, false, cond, not}
+use lib.ListN.{length, take, drop}
+use lib.Seq.{take-append-seam, drop-append-add, drop-length}
+use borrow.Author.Tests.{not-true}
+use Rattle.text.specs.Bytes.{Bytes, every}
+use Rattle.text.specs.Outcome.{Outcome, done, refused}
+use Rattle.text.specs.Reading.{Reader}
+use Rattle.text.specs.Lines.{onLine, readLines, readText, isLF, lineSize, linesSize, lineStart, refusedLine}
+use Rattle.text.proofs.Laws.{and-left, and-right}
+use Rattle.text.proofs.Outcome.{Allowed, allowed-bind, allowed-weaken, allowed-done}
+
+-- where a refusal is reported makes no difference to what is allowed
+allowed-onLine : {A : Type 0} (Q : A → Type 0) (file line : ℕ) (o : Outcome ℕ A) → Allowed Q o → Allowed Q (onLine file line o)
+allowed-onLine Q file line (done a) q = q
+allowed-onLine Q file line (refused number) q = tt
+
+-- an invariant that every line keeps holds at the end
+module _ {S A : Type 0} (file : ℕ) (line : S → Reader S) (finish : S → Outcome ℕ A) (I : S → Type 0) (W : A → Type 0)
+    (keeps : (state : S) (s : Bytes) → I state → Allowed (λ p. I (p .0)) (line state s))
+    (ends : (state : S) → I state → Allowed W (finish state)) where
+  pub readLines-keeps : (most k : ℕ) (state : S) (s : Bytes) → I state → Allowed W (readLines file line finish most k state s)
+  unfolding readLines
+  readLines-keeps zero k state s i = allowed-onLine W file k (finish state) (ends state i)
+  readLines-keeps (suc most) k state [] i = allowed-onLine W file k (finish state) (ends state i)
+  readLines-keeps (suc most) k state (b ∷ s) i =
+      allowed-bind (λ p. I (p .0)) W (λ p. readLines file line finish most (suc k) (p .0) (p .1))
+      (λ p j. readLines-keeps most (suc k) (p .0) (p .1) j)
+      (onLine file k (line state (b ∷ s))) (allowed-onLine (λ p. I (p .0)) file k (line state (b ∷ s)) (keeps state (b ∷ s) i))
+
+  pub readText-keeps : (state : S) (s : Bytes) → I state → Allowed W (readText file line finish state s)
+  readText-keeps state s i = readLines-keeps (length s) 1 state s i
+
+itself : {E A : Type 0} (o : Outcome E A) → Allowed (λ a. o ≡ done a) o
+itself (done a) = refl
+itself (refused e) = tt
+
+-- a run of lines from a state and a text to the text's end
+pub data Run {S : Type 0} (line : S → Reader S) : S → Bytes → S → Type 0 where
+  rest : (state : S) → Run line state [] state
+  more : (state u v : S) (b : ℕ) (s t : Bytes) → line state (b ∷ s) ≡ done (u, t) → Run line u t v → Run line state (b ∷ s) v
+
+-- a run of lines to a state that is finished with an answer
+pub record RunsTo {S A : Type 0} (line : S → Reader S) (finish : S → Outcome ℕ A) (state : S) (s : Bytes) (a : A) : Type 0 where
+  pub last : S
+  pub run : Run line state s last
+  pub answer : finish last ≡ done a
+
+-- what is read is a run of lines, where each line takes a byte
+module _ {S A : Type 0} (file : ℕ) (line : S → Reader S) (finish : S → Outcome ℕ A)
+    (shrinks : (state : S) (s : Bytes) → Allowed (λ p. length (p .1) < length s) (line state s)) where
+  shorter : (state u : S) (s t : Bytes) → line state s ≡ done (u, t) → length t < length s
+  shorter state u s t e = allowed-done (λ p. length (p .1) < length s) (line state s) (u, t) (shrinks state s) e
+
+  runs-end : (k : ℕ) (state : S) → Allowed (RunsTo line finish state []) (onLine file k (finish state))
+  runs-end k state =
+      allowed-onLine (RunsTo line finish state []) file k (finish state)
+      (allowed-weaken (λ a. finish state ≡ done a) (RunsTo line finish state []) (λ a e. record { last = state; run = rest state; answer = e })
+      (finish state) (itself (finish state)))
+
+  pub readLines-runs : (most k : ℕ) (state : S) (s : Bytes) → length s ≤ most → Allowed (RunsTo line finish state s) (readLines file line finish most k state s)
+  unfolding readLines
+  readLines-runs zero k state [] h = runs-end k state
+  readLines-runs zero k state (b ∷ s) h = absurd (omega arith)
+  readLines-runs (suc most) k state [] h = runs-end k state
+  readLines-runs (suc most) k state (b ∷ s) h =
+      allowed-bind (λ p. line state (b ∷ s) ≡ done p) (RunsTo line finish state (b ∷ s)) (λ p. readLines file line finish most (suc k) (p .0) (p .1))
+      (λ p e. allowed-weaken (RunsTo line finish (p .0) (p .1)) (RunsTo line finish state (b ∷ s))
+      (λ a r. record { last = r .last; run = more state (p .0) (r .last) b s (p .1) e (r .run); answer = r .answer })
+      (readLines file line finish most (suc k) (p .0) (p .1))
+      (readLines-runs most (suc k) (p .0) (p .1) (omega (arith, shorter state (p .0) (b ∷ s) (p .1) e))))
+      (onLine file k (line state (b ∷ s))) (allowed-onLine (λ p. line state (b ∷ s) ≡ done p) file k (line state (b ∷ s)) (itself (line state (b ∷ s))))
+
+  pub readText-runs : (state : S) (s : Bytes) → Allowed (RunsTo line finish state s) (readText file line finish state s)
+  readText-runs state s = readLines-runs (length s) 1 state s (omega arith)
+
+  run-readLines : (a : A) (most k : ℕ) (state v : S) (s : Bytes) → length s ≤ most → Run line state s v → finish v ≡ done a
+      → readLines file line finish most k state s ≡ done a
+  unfolding readLines
+  run-readLines a zero k state v s h (rest w) e = rw e
+  run-readLines a zero k state v s h (more w u x b r t l n) e = absurd (omega arith)
+  run-readLines a (suc most) k state v s h (rest w) e = rw e
+  run-readLines a (suc most) k state v s h (more w u x b r t l n) e = rw l (run-readLines a most (suc k) u x t (omega (arith, shorter w u (b ∷ r) t l)) n e)
+
+  -- exactly what a run of lines gives is read
+  pub readText-exactly : (state : S) (s : Bytes) (a : A) → (readText file line finish state s ≡ done a) ↔ RunsTo line finish state s a
+  readText-exactly state s a = (
+    allowed-done (RunsTo line finish state s) (readText file line finish state s) a (readText-runs state s),
+    λ r. run-readLines a (length s) 1 state (r .last) s (omega arith) (r .run) (r .answer),
+  )
+
+-- The refused line.
+
+abbrev pub notLF : ℕ → Bool
+notLF b = not (isLF b)
+
+-- the lines of a text, an end without LF counted
+abbrev pub lineCount : Bytes → ℕ
+lineCount [] = 0
+lineCount (b ∷ s) = cond (isLF b) (suc (lineCount s)) (max 1 (lineCount s))
+
+linesSize-within : (s : Bytes) (lines : ℕ) → linesSize s lines ≤ length s
+linesSize-within [] lines = omega arith
+linesSize-within (b ∷ s) zero = omega arith
+linesSize-within (b ∷ s) (suc lines) = omega (arith, linesSize-within s (cond (isLF b) lines (suc lines)))
+
+pub lineStart-within : (s : Bytes) (line : ℕ) → lineStart s line ≤ length s
+lineStart-within s zero = omega arith
+lineStart-within s (suc lines) = linesSize-within s lines
+
+no-LF-before : (s : Bytes) → every notLF (take (lineSize s) s) ≡ true
+no-LF-before [] = refl
+no-LF-before (b ∷ s) = pick (isLF b) refl (no-LF-before s)
+  where
+    pick : (c : Bool) → isLF b ≡ c → every notLF (take (lineSize s) s) ≡ true → every notLF (take (cond c 0 (suc (lineSize s))) (b ∷ s)) ≡ true
+    pick true e h = refl
+    pick false e h = rw (e, h)
+
+pub refusedLine-no-LF : (s : Bytes) (line : ℕ) → every notLF (refusedLine s line) ≡ true
+refusedLine-no-LF s line = no-LF-before (drop (lineStart s line) s)
+
+pub lineStart-first : (s : Bytes) → lineStart s 1 ≡ 0
+lineStart-first [] = refl
+lineStart-first (b ∷ s) = refl
+
+-- the first line of a text, and those after it
+module _ (t : Bytes) where
+  lineSize-first : (w : Bytes) → every notLF w ≡ true → lineSize (w ++ (10 ∷ t)) ≡ length w
+  lineSize-first [] e = refl
+  lineSize-first (b ∷ w) e = rw (not-true (isLF b) (and-left (notLF b) _ e), lineSize-first w (and-right (notLF b) _ e))
+
+  linesSize-first : (w : Bytes) (lines : ℕ) → every notLF w ≡ true → linesSize (w ++ (10 ∷ t)) (suc lines) ≡ length w + suc (linesSize t lines)
+  linesSize-first [] lines e = omega arith
+  linesSize-first (b ∷ w) lines e =
+      rw (not-true (isLF b) (and-left (notLF b) _ e), linesSize-first w lines (and-right (notLF b) _ e)) (omega arith)
+
+  module _ (w : Bytes) (free : every notLF w ≡ true) where
+    pub refusedLine-first : refusedLine (w ++ (10 ∷ t)) 1 ≡ w
+    refusedLine-first = rw (lineStart-first (w ++ (10 ∷ t)), lineSize-first w free, take-append-seam w (10 ∷ t))
+
+    pub lineStart-later : (k : ℕ) → lineStart (w ++ (10 ∷ t)) (suc (suc k)) ≡ length w + suc (lineStart t (suc k))
+    lineStart-later k = linesSize-first w k free
+
+    pub refusedLine-later : (k : ℕ) → refusedLine (w ++ (10 ∷ t)) (suc (suc k)) ≡ refusedLine t (suc k)
+    refusedLine-later k = rw (lineStart-later k, drop-append-add w (10 ∷ t) (suc (lineStart t (suc k))))
+
+linesSize-before : (s : Bytes) (lines : ℕ) → lines < lineCount s → linesSize s lines < length s
+linesSize-before [] lines h = absurd (omega arith)
+linesSize-before (b ∷ s) zero h = omega arith
+linesSize-before (b ∷ s) (suc lines) h = pick (isLF b) h (λ k. linesSize-before s k)
+  where
+    pick : (c : Bool) → suc lines < cond c (suc (lineCount s)) (max 1 (lineCount s)) → ((k : ℕ) → k < lineCount s → linesSize s k < length s)
+        → suc (linesSize s (cond c lines (suc lines))) < suc (length s)
+    pick true g ih = omega (arith, ih lines (omega arith))
+    pick false g ih = omega (arith, ih (suc lines) (omega arith))
+
+line-begun : (b : ℕ) (s : Bytes) → 0 < lineCount (b ∷ s)
+line-begun b s = pick (isLF b)
+  where
+    pick : (c : Bool) → 0 < cond c (suc (lineCount s)) (max 1 (lineCount s))
+    pick true = omega arith
+    pick false = omega arith
+
+linesSize-all : (s : Bytes) (lines : ℕ) → lineCount s ≤ lines → linesSize s lines ≡ length s
+linesSize-all [] lines h = refl
+linesSize-all (b ∷ s) zero h = absurd (omega (arith, line-begun b s))
+linesSize-all (b ∷ s) (suc lines) h = pick (isLF b) h (λ k. linesSize-all s k)
+  where
+    pick : (c : Bool) → cond c (suc (lineCount s)) (max 1 (lineCount s)) ≤ suc lines → ((k : ℕ) → lineCount s ≤ k → linesSize s k ≡ length s)
+        → suc (linesSize s (cond c lines (suc lines))) ≡ suc (length s)
+    pick true g ih = ap suc (ih lines (omega arith))
+    pick false g ih = ap suc (ih (suc lines) (omega arith))
+
+-- a line that there is begins before the end
+pub lineStart-present : (s : Bytes) (k : ℕ) → k < lineCount s → lineStart s (suc k) < length s
+lineStart-present s k h = linesSize-before s k h
+
+-- line 0 and a line after the last are the empty part at the end
+module _ (s : Bytes) where
+  pub lineStart-missing : (line : ℕ) → (0 < line → lineCount s < line) → lineStart s line ≡ length s
+  lineStart-missing zero h = refl
+  lineStart-missing (suc k) h = linesSize-all s k (omega (arith, h (omega arith)))
+
+  pub refusedLine-missing : (line : ℕ) → (0 < line → lineCount s < line) → refusedLine s line ≡ []
+  refusedLine-missing line h = rw (lineStart-missing line h, drop-length s)
