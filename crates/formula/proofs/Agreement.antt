@@ -27,11 +27,11 @@ alike-bind bound ρ σ y v alike x = pick (same x y)
     pick false e = alike x e
 
 module _ (bound : Name → Bool) (ρ σ : Environment) (alike : Alike bound ρ σ) where
-  pub valueOf-agree : (t : Term) → termClosed bound t ≡ true → valueOf ρ t ≡ valueOf σ t
+  valueOf-agree : (t : Term) → termClosed bound t ≡ true → valueOf ρ t ≡ valueOf σ t
   valueOf-agree (element v) e = refl
   valueOf-agree (variable x) e = alike x e
 
-  pub valuesOf-agree : (ts : Terms) → termsClosed bound ts ≡ true → valuesOf ρ ts ≡ valuesOf σ ts
+  valuesOf-agree : (ts : Terms) → termsClosed bound ts ≡ true → valuesOf ρ ts ≡ valuesOf σ ts
   valuesOf-agree noTerms e = refl
   valuesOf-agree (term t ts) e = rw (valueOf-agree t (and-left _ _ e), valuesOf-agree ts (and-right (termClosed bound t) _ e))
 

@@ -3,3 +3,8 @@ pub mod Substitution
 pub mod Agreement
 pub mod Rules
 pub mod Tables
+pub mod WellFormed
+pub mod Kept
+pub mod Soundness
+pub mod Normal
+pub mod GroundSize

@@ -3,9 +3,9 @@
 use mathlib.Core.Path.{_≡_, refl, ap}
 use mathlib.Core.Bool.{Bool, true, false, Bool·beq, false≢true}
 use Rattle.text.specs.Problem.{Name}
-use Rattle.formula.specs.Formula.{Side, Connective, negation, implies, impliedBy, equivalent, junction}
+use Rattle.formula.specs.Formula.{Side, negation, implies, impliedBy, equivalent, junction}
 use Rattle.formula.specs.Formula.{Formula, truth, atom, equal, connective, quantifier, Formulas, noParts, part}
-use Rattle.formula.specs.Rules.{onTruth, onSole, onNegation, onJunction, onQuantifier, isTruth}
+use Rattle.formula.specs.Rules.{onTruth, onNegation, onJunction, onQuantifier, isTruth}
 
 module _ {A : Type 0} (otherwise : A) (Q : Formula → A → Type 0) (other : (f : Formula) → Q f otherwise) where
   pub onTruth-cases : (k : Bool → A) → ((b : Bool) → Q (truth b) (k b)) → (f : Formula) → Q f (onTruth otherwise k f)

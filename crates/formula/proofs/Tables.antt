@@ -2,20 +2,21 @@
 -- what the rules make is proved by the relation's cases.
 -- Assumes nothing.
 use Prim.Native.Nat.{ℕ, suc, zero}
-use mathlib.Core.Path.{_≡_, refl, ap, ap₂}
+use mathlib.Core.Path.{_≡_, refl}
 use mathlib.Core.List.{List, [], _∷_}
 use mathlib.Core.Bool.{Bool, true, false, cond, not, _&&_}
-use Rattle.text.specs.Outcome.{Outcome, done, refused, mapped}
-use Rattle.text.specs.Problem.{Name, Problem, isInput}
+use Rattle.text.specs.Outcome.{Outcome, done, refused}
+use Rattle.text.specs.Problem.{Problem, isInput}
 use Rattle.text.specs.Derivation.{Rule, SNAND, SNOR, STN, EPRED, EPROP, IQ}
 use Rattle.text.proofs.Laws.{and-left, and-right}
 use Rattle.text.proofs.Outcome.{Allowed, allowed-mapped, allowed-weaken, allowed-cond}
-use Rattle.formula.specs.Formula.{Term, Terms, noTerms, term, Side, all, any, Connective, negation, junction}
+use Rattle.formula.specs.Formula.{noTerms, term, Side, all, any, negation, junction}
 use Rattle.formula.specs.Formula.{Formula, truth, atom, equal, connective, quantifier, Formulas, noParts, part}
 use Rattle.formula.specs.Names.{closedBut}
 use Rattle.formula.specs.Normal.{isElementTerm, elementsOnly}
 use Rattle.formula.specs.Meaning.{unit}
-use Rattle.formula.specs.Rules.{Rewriting, hasTruth, without, unlessNone, simplified, isSide, simplify, evaluatePredicate, evaluateProposition, apply, intoParts, into, at}
+use Rattle.formula.specs.Rules.{Rewriting, hasTruth, without, unlessNone, simplified, isSide, simplify, evaluatePredicate, evaluateProposition}
+use Rattle.formula.specs.Rules.{apply, intoParts, into, at}
 use Rattle.formula.specs.Tables.{simplification, Makes, absorbing, dropping, negating, predicate, equality, proposition, instantiating}
 use Rattle.formula.specs.Tables.{Exchanged, first, later, MakesAt, here, inPart, inGuard, inBody}
 use Rattle.formula.proofs.Rules.{onTruth-cases, onNegation-cases, onJunction-cases, onQuantifier-cases}
@@ -90,8 +91,9 @@ module _ (P : Problem) where
   makes-apply (proposition p i) = rw i
   makes-apply (instantiating c x g k e) = rw e
 
--- Paths: parts of which one is exchanged for what Q says
+-- Paths.
 
+-- parts of which one is exchanged, as Q says
 abbrev OneExchanged : (Formula → Formula → Type 0) → ℕ → Formulas → Formulas → Type 0
 OneExchanged Q i fs hs = (g : Formula) × (h : Formula) × Exchanged i g h fs hs × Q g h
 
