@@ -1,3 +1,5 @@
 pub mod Laws
 pub mod Outcome
 pub mod Lines
+pub mod Bytes
+pub mod Places

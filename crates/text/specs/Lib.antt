@@ -6,3 +6,4 @@ pub mod Reading
 pub mod Lines
 pub mod Problem
 pub mod Derivation
+pub mod memory

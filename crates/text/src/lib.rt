@@ -1,1 +1,3 @@
-// Bytes, numbers, lines, the problem and derivation lines: what stands in the texts.
+// What stands in the texts: bytes, numbers, lines, the problem and derivation lines.
+pub mod byte;
+pub mod line;

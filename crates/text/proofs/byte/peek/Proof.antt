@@ -1,0 +1,18 @@
+-- `byte::peek` gives the byte at a place, and 0 at the end.
+-- Assumes nothing.
+use borrow.Author.Needs.{needs}
+use Rattle.text.proofs.Places.{next-within, next-beyond}
+use Rattle.text.proofs.byte.peek.Statement.{statement}
+use Rattle.text.proofs.byte.peek.Tie as tie
+
+shared-slice-read-result : tie.Need-shared-slice-read-result
+shared-slice-read-result c = search needs
+
+returns : tie.Need-returns
+returns c = next-within (c .before .before .args .text .now) (c .before .before .args .at)
+
+returns-2 : tie.Need-returns-2
+returns-2 c = next-beyond (c .before .args .text .now) (c .before .args .at) (c .if1 .left)
+
+pub peek-spec : {M : Type 1} → statement M
+peek-spec = tie.close (tie.spec shared-slice-read-result returns returns-2)

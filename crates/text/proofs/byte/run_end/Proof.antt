@@ -1,0 +1,67 @@
+-- `byte::run_end` finds the place after a run. The invariant: what was passed and the run from here are the run from the first place.
+-- Assumes nothing.
+use borrow.Author.Needs.{needs}
+use native.Mathlib.Omega.{arith}
+use Prim.Native.Nat.{_+_, _-_, _≤_}
+use mathlib.Core.Path.{_≡_, refl, sym, ap, _∙_}
+use lib.ListN.{length, drop}
+use borrow.Author.Tests.{not-true, not-false}
+use Rattle.text.specs.Bytes.{span}
+use Rattle.text.specs.memory.Classes.{inClass}
+use Rattle.text.proofs.Places.{span-more, span-stop, span-beyond}
+use Rattle.text.proofs.byte.run_end.Statement.{statement}
+use Rattle.text.proofs.byte.run_end.Tie as tie
+
+abbrev Inv-loop : tie.InvT-loop
+Inv-loop text at class i₀ i = (i ≤ length text) × (at + length (span (inClass class) (drop at text)) ≡ i + length (span (inClass class) (drop i text)))
+
+abbrev μ-loop : tie.MeasureT-loop
+μ-loop text at class i₀ i = length text - i
+
+loop-holds : tie.Need-loop-holds Inv-loop μ-loop
+loop-holds c = (omega arith, refl)
+
+shared-slice-read-belongs : tie.Need-shared-slice-read-belongs Inv-loop μ-loop
+shared-slice-read-belongs c = search needs
+
+belongs-requires : tie.Need-belongs-requires Inv-loop μ-loop
+belongs-requires c κs = search needs
+
+returns : tie.Need-returns Inv-loop μ-loop
+returns c =
+    let a = c .before .before .before .before .before .before .args in
+    let z = ap length (span-stop (a .text .now) (c .before .before .before .before .loop .i) (c .before .before .before .loop-test .taken) (inClass (a .class)) (sym (c .before .belongs .ensures) ∙ not-true _ (c .if1 .taken))) in
+    omega arith
+
+add-i : tie.Need-add-i Inv-loop μ-loop
+add-i c = search needs
+
+loop-less : tie.Need-loop-less Inv-loop μ-loop
+loop-less c = search needs
+
+loop-again : tie.Need-loop-again Inv-loop μ-loop
+loop-again c =
+    let a = c .before .before .before .before .before .before .args in
+    let z = ap length (span-more (a .text .now) (c .before .before .before .before .loop .i) (c .before .before .before .loop-test .taken) (inClass (a .class)) (sym (c .before .belongs .ensures) ∙ not-false _ (c .if1 .left))) in
+    omega arith
+
+returns-2 : tie.Need-returns-2 Inv-loop μ-loop
+returns-2 c =
+    let a = c .before .before .before .args in
+    let z = ap length (span-beyond (a .text .now) (c .before .loop .i) (inClass (a .class)) (c .loop-test .left)) in
+    omega arith
+
+pub run-end-spec : {M : Type 1} → statement M
+run-end-spec =
+    tie.close
+    (tie.spec
+    Inv-loop
+    μ-loop
+    loop-holds
+    shared-slice-read-belongs
+    belongs-requires
+    returns
+    add-i
+    loop-less
+    loop-again
+    returns-2)
