@@ -2,3 +2,4 @@ pub mod Theory
 pub mod Steps
 pub mod Replay
 pub mod Answer
+pub mod Accepted
