@@ -16,10 +16,12 @@ use Rattle.text.specs.Derivation.{Derivation, RuleLine, rewrite, unsat, trivial
 use Rattle.text.specs.Derivation.{ruleText, positionText, ruleLineText, lineText, versionText, grounderText, ruleLinesText, derivationText, readLine, readVersion, readGrounder}
 use Rattle.text.proofs.Laws.{and-left, and-right}
 use Rattle.text.proofs.Outcome.{Allowed, allowed-mapped, allowed-bind, allowed-weaken, allowed-done}
+use Rattle.text.proofs.Derivation.{reads-line, read-line, reads-version, read-version, reads-grounder, read-grounder}
 use Rattle.text.proofs.Lines.{Run, rest, more, RunsTo, readText-exactly}
 use Rattle.formula.specs.Formula.{Formula}
 use Rattle.replay.specs.Theory.{State, initial, stepped}
 use Rattle.replay.specs.Steps.{Step, Steps, stop, go}
+use Rattle.replay.proofs.Steps.{stepped-step, step-stepped}
 use Rattle.replay.specs.Replay.{Place, top, heading, among, bottom, Replayed, lineDone, derivationLine, wholeDerivation, derivationOf}
 
 -- a derivation of that text, whose lines lead to what is told
@@ -45,15 +47,7 @@ pub record Left (P : Problem) (st : State) (rules : ℕ) (s : Bytes) (R : Replay
   pub steps : Steps P st lines (R .last)
   pub counted : R .rules ≡ rules + length lines
 
-module _ (P : Problem) (T : List Formula)
-    (stepped-step : (s : State) (l : RuleLine) → Allowed (Step P s l) (stepped P s l))
-    (step-stepped : (s u : State) (l : RuleLine) → Step P s l u → stepped P s l ≡ done u)
-    (line-sound : (s : Bytes) → Allowed (λ p. (lineFits (p .0) ≡ true) × (s ≡ lineText (p .0) ++ p .1)) (readLine s))
-    (read-line : (l : Line) (u : Bytes) → lineFits l ≡ true → readLine (lineText l ++ u) ≡ done (l, u))
-    (version-sound : (s : Bytes) → Allowed (λ p. s ≡ versionText ++ p .1) (readVersion s))
-    (read-version : (u : Bytes) → readVersion (versionText ++ u) ≡ done (tt, u))
-    (grounder-sound : (s : Bytes) → Allowed (λ p. (isGrounder (p .0) ≡ true) × (s ≡ grounderText (p .0) ++ p .1)) (readGrounder s))
-    (read-grounder : (g u : Bytes) → isGrounder g ≡ true → readGrounder (grounderText g ++ u) ≡ done (g, u)) where
+module _ (P : Problem) (T : List Formula) where
   -- what a line says, by its place
   abbrev Says : Place → Bytes → Place → Bytes → Type 0
   Says top s u t = (u ≡ heading) × (s ≡ versionText ++ t)
@@ -63,22 +57,22 @@ module _ (P : Problem) (T : List Formula)
 
   line-done : (st : State) (rules : ℕ) (l : Line) (t : Bytes) → lineFits l ≡ true → Allowed (λ u. Moves P st rules (lineText l ++ t) u t) (lineDone P st rules l)
   line-done st rules (step l) t e =
-      allowed-mapped (Step P st l) (λ u. Moves P st rules (lineText (step l) ++ t) u t) (λ u. among u (suc rules)) (λ u m. moves l u t e m) (stepped P st l) (stepped-step st l)
+      allowed-mapped (Step P st l) (λ u. Moves P st rules (lineText (step l) ++ t) u t) (λ u. among u (suc rules)) (λ u m. moves l u t e m) (stepped P st l) (stepped-step P st l)
   line-done st rules (footer names) t e = closes names t e
 
   line-says : (place : Place) (s : Bytes) → Allowed (λ p. Says place s (p .0) (p .1)) (derivationLine P T place s)
   unfolding derivationLine
   line-says top s =
-      allowed-bind (λ p. s ≡ versionText ++ p .1) (λ p. Says top s (p .0) (p .1)) (λ p. done (heading, p .1)) (λ p e. (refl, e)) (readVersion s) (version-sound s)
+      allowed-bind (λ p. Unit {0} × (s ≡ versionText ++ p .1)) (λ p. Says top s (p .0) (p .1)) (λ p. done (heading, p .1)) (λ p e. (refl, e .1)) (readVersion s) (reads-version .sound s)
   line-says heading s =
       allowed-bind (λ p. (isGrounder (p .0) ≡ true) × (s ≡ grounderText (p .0) ++ p .1)) (λ p. Says heading s (p .0) (p .1)) (λ p. done (among (initial T) 0, p .1))
-      (λ p e. (p .0, e .0, refl, e .1)) (readGrounder s) (grounder-sound s)
+      (λ p e. (p .0, e .0, refl, e .1)) (readGrounder s) (reads-grounder .sound s)
   line-says (among st rules) s =
       allowed-bind (λ p. (lineFits (p .0) ≡ true) × (s ≡ lineText (p .0) ++ p .1)) (λ p. Moves P st rules s (p .0) (p .1))
       (λ p. mapped (λ u. (u, p .1)) (lineDone P st rules (p .0)))
       (λ p e. allowed-mapped (λ u. Moves P st rules (lineText (p .0) ++ p .1) u (p .1)) (λ q. Moves P st rules s (q .0) (q .1)) (λ u. (u, p .1))
       (λ u m. rw (e .1) m) (lineDone P st rules (p .0)) (line-done st rules (p .0) (p .1) (e .0)))
-      (readLine s) (line-sound s)
+      (readLine s) (reads-line .sound s)
   line-says (bottom st rules names) s = tt
 
   -- what is left from a place
@@ -177,7 +171,7 @@ module _ (P : Problem) (T : List Formula)
   left-run lines st last rules total final f n (go w u v l ls m k) e =
       let t = ruleLinesText ls (lineText (footer final)) in
       run-on (among w rules) (among u (suc rules)) (bottom v total final) (lineText (step l) ++ t) t
-      (rw (read-line (step l) t (and-left (ruleLineFits l) _ f), step-stepped w u l m))
+      (rw (read-line (step l) t (and-left (ruleLineFits l) _ f), step-stepped P w u l m))
       (left-run ls u v (suc rules) total final (and-right (ruleLineFits l) _ f) n k (omega arith))
 
   derived-run : (s : Bytes) (R : Replayed) → Derived P T s R → RunsTo (derivationLine P T) wholeDerivation top s R

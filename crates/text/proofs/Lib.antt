@@ -1,5 +1,9 @@
 pub mod Laws
 pub mod Outcome
-pub mod Lines
 pub mod Bytes
 pub mod Places
+pub mod Numbers
+pub mod Reading
+pub mod Lines
+pub mod Problem
+pub mod Derivation

@@ -3,11 +3,11 @@
 -- Assumes nothing.
 use Prim.Native.Nat.{ℕ, suc, zero, _+_, _≤_, _<_, max}
 use native.Mathlib.Omega.{arith}
-use mathlib.Core.Path.{_≡_, refl, ap}
+use mathlib.Core.Path.{_≡_, refl, ap, _∙_}
 use mathlib.Core.Logic.{_↔_}
-use mathlib.Core.List.{List, [], _∷_, _++_}
+use mathlib.Core.List.{List, [], _∷_, _++_, append-nil}
 use mathlib.Core.Bool.{Bool, true, false, cond, not}
-use lib.ListN.{length, take, drop}
+use lib.ListN.{length, take, drop, length-append}
 use lib.Seq.{take-append-seam, drop-append-add, drop-length}
 use borrow.Author.Tests.{not-true}
 use Rattle.text.specs.Bytes.{Bytes, every}
@@ -15,6 +15,7 @@ use Rattle.text.specs.Outcome.{Outcome, done, refused}
 use Rattle.text.specs.Reading.{Reader}
 use Rattle.text.specs.Lines.{onLine, readLines, readText, isLF, lineSize, linesSize, lineStart, refusedLine}
 use Rattle.text.proofs.Laws.{and-left, and-right}
+use Rattle.text.proofs.Reading.{Reads}
 use Rattle.text.proofs.Outcome.{Allowed, allowed-bind, allowed-weaken, allowed-done}
 
 -- where a refusal is reported makes no difference to what is allowed
@@ -22,64 +23,93 @@ allowed-onLine : {A : Type 0} (Q : A → Type 0) (file line : ℕ) (o : Outcome 
 allowed-onLine Q file line (done a) q = q
 allowed-onLine Q file line (refused number) q = tt
 
--- an invariant that every line keeps holds at the end
+-- what every line keeps of the bound, the state and the text holds at the end
+module _ {S A : Type 0} (file : ℕ) (line : S → Reader S) (finish : S → Outcome ℕ A) (I : ℕ → S → Bytes → Type 0) (W : A → Type 0)
+    (keeps : (most : ℕ) (state : S) (b : ℕ) (s : Bytes) → I (suc most) state (b ∷ s) → Allowed (λ p. I most (p .0) (p .1)) (line state (b ∷ s)))
+    (stops : (state : S) (s : Bytes) → I zero state s → Allowed W (finish state))
+    (ends : (most : ℕ) (state : S) → I (suc most) state [] → Allowed W (finish state)) where
+  readLines-leads : (most k : ℕ) (state : S) (s : Bytes) → I most state s → Allowed W (readLines file line finish most k state s)
+  unfolding readLines
+  readLines-leads zero k state s i = allowed-onLine W file k (finish state) (stops state s i)
+  readLines-leads (suc most) k state [] i = allowed-onLine W file k (finish state) (ends most state i)
+  readLines-leads (suc most) k state (b ∷ s) i =
+      allowed-bind (λ p. I most (p .0) (p .1)) W (λ p. readLines file line finish most (suc k) (p .0) (p .1))
+      (λ p j. readLines-leads most (suc k) (p .0) (p .1) j)
+      (onLine file k (line state (b ∷ s))) (allowed-onLine (λ p. I most (p .0) (p .1)) file k (line state (b ∷ s)) (keeps most state b s i))
+
+-- so an invariant of the state
 module _ {S A : Type 0} (file : ℕ) (line : S → Reader S) (finish : S → Outcome ℕ A) (I : S → Type 0) (W : A → Type 0)
     (keeps : (state : S) (s : Bytes) → I state → Allowed (λ p. I (p .0)) (line state s))
     (ends : (state : S) → I state → Allowed W (finish state)) where
   pub readLines-keeps : (most k : ℕ) (state : S) (s : Bytes) → I state → Allowed W (readLines file line finish most k state s)
-  unfolding readLines
-  readLines-keeps zero k state s i = allowed-onLine W file k (finish state) (ends state i)
-  readLines-keeps (suc most) k state [] i = allowed-onLine W file k (finish state) (ends state i)
-  readLines-keeps (suc most) k state (b ∷ s) i =
-      allowed-bind (λ p. I (p .0)) W (λ p. readLines file line finish most (suc k) (p .0) (p .1))
-      (λ p j. readLines-keeps most (suc k) (p .0) (p .1) j)
-      (onLine file k (line state (b ∷ s))) (allowed-onLine (λ p. I (p .0)) file k (line state (b ∷ s)) (keeps state (b ∷ s) i))
+  readLines-keeps =
+      readLines-leads file line finish (λ most state s. I state) W
+      (λ most state b s i. keeps state (b ∷ s) i) (λ state s i. ends state i) (λ most state i. ends state i)
 
   pub readText-keeps : (state : S) (s : Bytes) → I state → Allowed W (readText file line finish state s)
   readText-keeps state s i = readLines-keeps (length s) 1 state s i
 
-itself : {E A : Type 0} (o : Outcome E A) → Allowed (λ a. o ≡ done a) o
-itself (done a) = refl
-itself (refused e) = tt
+-- and an invariant of the state and the rest of the text, where every line takes a byte
+module _ {S A : Type 0} (file : ℕ) (line : S → Reader S) (finish : S → Outcome ℕ A) (I : S → Bytes → Type 0) (W : A → Type 0)
+    (keeps : (state : S) (b : ℕ) (s : Bytes) → I state (b ∷ s) → Allowed (λ p. I (p .0) (p .1) × (length (p .1) ≤ length s)) (line state (b ∷ s)))
+    (ends : (state : S) → I state [] → Allowed W (finish state)) where
+  pub readText-leads : (state : S) (s : Bytes) → I state s → Allowed W (readText file line finish state s)
+  readText-leads state s i =
+      readLines-leads file line finish Within W
+      (λ most state b s j. allowed-weaken _ _ (λ p h. (h .0, omega arith)) (line state (b ∷ s)) (keeps state b s (j .0))) stops (λ most state j. ends state (j .0))
+      (length s) 1 state s (i, omega arith)
+    where
+      Within : ℕ → S → Bytes → Type 0
+      Within most state s = I state s × (length s ≤ most)
 
--- a run of lines from a state and a text to the text's end
+      stops : (state : S) (s : Bytes) → I state s × (length s ≤ 0) → Allowed W (finish state)
+      stops state [] j = ends state (j .0)
+      stops state (b ∷ s) j = absurd (omega arith)
+
+-- where the state has the text of what is read so far, the answer has that of all
+module _ {S A : Type 0} (file : ℕ) (line : S → Reader S) (finish : S → Outcome ℕ A) (I : S → Type 0) (text : S → Bytes) (W : Bytes → A → Type 0)
+    (reads : (state : S) → I state → Reads (text state) (λ next. I next × (length (text state) < length (text next))) text (line state))
+    (ends : (state : S) → I state → Allowed (W (text state)) (finish state)) where
+  pub readText-reads : (state : S) (s : Bytes) → I state → Allowed (W (text state ++ s)) (readText file line finish state s)
+  readText-reads first whole i =
+      readText-leads file line finish (λ state s. I state × (text first ++ whole ≡ text state ++ s)) (W (text first ++ whole))
+      (λ state b s j. allowed-weaken _ _
+      (λ p q. ((q .0 .0, j .1 ∙ q .1), omega (arith, simp length-append at (ap length (q .1)), q .0 .1)))
+      (line state (b ∷ s)) (reads state (j .0) .sound (b ∷ s)))
+      (λ state j. rw (j .1, append-nil) (ends state (j .0)))
+      first whole (i, refl)
+
+-- A run of lines.
+
+-- from a state and a text to the text's end
 pub data Run {S : Type 0} (line : S → Reader S) : S → Bytes → S → Type 0 where
   rest : (state : S) → Run line state [] state
   more : (state u v : S) (b : ℕ) (s t : Bytes) → line state (b ∷ s) ≡ done (u, t) → Run line u t v → Run line state (b ∷ s) v
 
--- a run of lines to a state that is finished with an answer
+-- and to a state that is finished with an answer
 pub record RunsTo {S A : Type 0} (line : S → Reader S) (finish : S → Outcome ℕ A) (state : S) (s : Bytes) (a : A) : Type 0 where
   pub last : S
   pub run : Run line state s last
   pub answer : finish last ≡ done a
 
--- what is read is a run of lines, where each line takes a byte
+itself : {E A : Type 0} (o : Outcome E A) → Allowed (λ a. o ≡ done a) o
+itself (done a) = refl
+itself (refused e) = tt
+
 module _ {S A : Type 0} (file : ℕ) (line : S → Reader S) (finish : S → Outcome ℕ A)
     (shrinks : (state : S) (s : Bytes) → Allowed (λ p. length (p .1) < length s) (line state s)) where
-  shorter : (state u : S) (s t : Bytes) → line state s ≡ done (u, t) → length t < length s
-  shorter state u s t e = allowed-done (λ p. length (p .1) < length s) (line state s) (u, t) (shrinks state s) e
+  shorter : (state : S) (s : Bytes) (p : S × Bytes) → line state s ≡ done p → length (p .1) < length s
+  shorter state s p = allowed-done _ (line state s) p (shrinks state s)
 
-  runs-end : (k : ℕ) (state : S) → Allowed (RunsTo line finish state []) (onLine file k (finish state))
-  runs-end k state =
-      allowed-onLine (RunsTo line finish state []) file k (finish state)
-      (allowed-weaken (λ a. finish state ≡ done a) (RunsTo line finish state []) (λ a e. record { last = state; run = rest state; answer = e })
-      (finish state) (itself (finish state)))
-
-  pub readLines-runs : (most k : ℕ) (state : S) (s : Bytes) → length s ≤ most → Allowed (RunsTo line finish state s) (readLines file line finish most k state s)
-  unfolding readLines
-  readLines-runs zero k state [] h = runs-end k state
-  readLines-runs zero k state (b ∷ s) h = absurd (omega arith)
-  readLines-runs (suc most) k state [] h = runs-end k state
-  readLines-runs (suc most) k state (b ∷ s) h =
-      allowed-bind (λ p. line state (b ∷ s) ≡ done p) (RunsTo line finish state (b ∷ s)) (λ p. readLines file line finish most (suc k) (p .0) (p .1))
-      (λ p e. allowed-weaken (RunsTo line finish (p .0) (p .1)) (RunsTo line finish state (b ∷ s))
-      (λ a r. record { last = r .last; run = more state (p .0) (r .last) b s (p .1) e (r .run); answer = r .answer })
-      (readLines file line finish most (suc k) (p .0) (p .1))
-      (readLines-runs most (suc k) (p .0) (p .1) (omega (arith, shorter state (p .0) (b ∷ s) (p .1) e))))
-      (onLine file k (line state (b ∷ s))) (allowed-onLine (λ p. line state (b ∷ s) ≡ done p) file k (line state (b ∷ s)) (itself (line state (b ∷ s))))
-
+  -- the lines read so far go before any run of the others
   pub readText-runs : (state : S) (s : Bytes) → Allowed (RunsTo line finish state s) (readText file line finish state s)
-  readText-runs state s = readLines-runs (length s) 1 state s (omega arith)
+  readText-runs first whole =
+      readText-leads file line finish (λ state s. (v : S) → Run line state s v → Run line first whole v) (RunsTo line finish first whole)
+      (λ state b s i. allowed-weaken _ _
+      (λ p e. (λ v r. i v (more state (p .0) v b s (p .1) e r), omega (arith, shorter state (b ∷ s) p e)))
+      (line state (b ∷ s)) (itself (line state (b ∷ s))))
+      (λ state i. allowed-weaken _ _ (λ a e. record { last = state; run = i state (rest state); answer = e }) (finish state) (itself (finish state)))
+      first whole (λ v r. r)
 
   run-readLines : (a : A) (most k : ℕ) (state v : S) (s : Bytes) → length s ≤ most → Run line state s v → finish v ≡ done a
       → readLines file line finish most k state s ≡ done a
@@ -87,7 +117,7 @@ module _ {S A : Type 0} (file : ℕ) (line : S → Reader S) (finish : S → Out
   run-readLines a zero k state v s h (rest w) e = rw e
   run-readLines a zero k state v s h (more w u x b r t l n) e = absurd (omega arith)
   run-readLines a (suc most) k state v s h (rest w) e = rw e
-  run-readLines a (suc most) k state v s h (more w u x b r t l n) e = rw l (run-readLines a most (suc k) u x t (omega (arith, shorter w u (b ∷ r) t l)) n e)
+  run-readLines a (suc most) k state v s h (more w u x b r t l n) e = rw l (run-readLines a most (suc k) u x t (omega (arith, shorter w (b ∷ r) (u, t) l)) n e)
 
   -- exactly what a run of lines gives is read
   pub readText-exactly : (state : S) (s : Bytes) (a : A) → (readText file line finish state s ≡ done a) ↔ RunsTo line finish state s a
