@@ -8,3 +8,4 @@ pub mod Kept
 pub mod Soundness
 pub mod Normal
 pub mod GroundSize
+pub mod Reading

@@ -15,9 +15,11 @@ use Rattle.text.specs.Reading.{Reader, give, refuse, word, _⇒_, oneOf,
 use Rattle.text.specs.Derivation.{Position, Rule, SNAND, SNOR, STN, EPRED, EPROP, IQ, RuleLine, rewrite, unsat, trivial, splitc, Line, step, footer}
 use Rattle.text.specs.Derivation.{inBounds, allInBounds, areNames, positionFits, newNamesFit, ruleLineFits, lineFits, isGrounder}
 use Rattle.text.specs.Derivation.{ruleText, numbersText, pathText, positionText, footerText, ruleLineText, lineText, versionText, grounderText}
-use Rattle.text.specs.Derivation.{readRanged, readFormulaName, readPath, readPosition, atPosition, readSplit, readFooter, lineKinds, readLine, readVersion, readGrounder}
+use Rattle.text.specs.Derivation.{readRanged, readFormulaName, readPath, readPosition, atPosition, readSplit, readFooter}
+use Rattle.text.specs.Derivation.{lineKinds, readLine, readVersion, readGrounder}
 use Rattle.text.proofs.Laws.{and-left, and-right, or-left, or-right}
-use Rattle.text.proofs.Reading.{Each, OneOrMore, Reads, reads-refuse, reads-give, reads-then, reads-weaken, reads-require, reads-word, reads-token, reads-number, reads-oneOf, reads-separated}
+use Rattle.text.proofs.Reading.{Each, OneOrMore, Reads, reads-refuse, reads-give, reads-then, reads-weaken, reads-require}
+use Rattle.text.proofs.Reading.{reads-word, reads-token, reads-number, reads-oneOf, reads-separated}
 use Rattle.text.proofs.Reading.{ReadsBack, read-word, read-token, read-number, read-separated, oneOf-word, oneOf-last, next-append}
 use Rattle.text.proofs.Numbers.{decimal-first}
 
@@ -177,7 +179,8 @@ read-position p fits u ends =
       read-path (p .path) (and-right (inBounds 1 greatestName (p .name)) _ fits) u (or-right (isDigit (next u)) _ ends),
     )
 
-read-at : (make : Position → RuleLine) (p : Position) (u : Bytes) → positionFits p ≡ true → atPosition make ((positionText p ++ bytes "\n") ++ u) ≡ done (step (make p), u)
+read-at : (make : Position → RuleLine) (p : Position) (u : Bytes) → positionFits p ≡ true
+    → atPosition make ((positionText p ++ bytes "\n") ++ u) ≡ done (step (make p), u)
 unfolding word
 read-at make p u fits = rw (append-assoc (positionText p), read-position p fits (10 ∷ u) refl)
 

@@ -6,4 +6,5 @@ pub mod Numbers
 pub mod Reading
 pub mod Lines
 pub mod Problem
+pub mod ProblemText
 pub mod Derivation

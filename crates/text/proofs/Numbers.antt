@@ -12,26 +12,6 @@ use Rattle.text.specs.Bytes.{Bytes, next, every, isDigit}
 use Rattle.text.specs.Numbers.{valueAfter, value, noLeadingZero, isNumber, digits, decimal}
 use Rattle.text.proofs.Laws.{and-left, and-right}
 
--- what holds of one digit, and is kept by a digit more, holds of every number and its text
-module _
-    (P : ℕ → Bytes → Type 0)
-    (one : (n : ℕ) → n < 10 → P n ((48 + n) ∷ []))
-    (more : (n : ℕ) (ds : Bytes) → 10 ≤ n → P (n / 10) ds → P n (ds ++ ((48 + n % 10) ∷ [])))
-  where
-    digits-induction : (most n : ℕ) → n < most → P n (digits most n)
-    unfolding digits
-    digits-induction zero n h = absurd (omega arith)
-    digits-induction (suc most) n h = pick (ltb n 10) refl (λ l. digits-induction most (n / 10) l)
-      where
-        pick : (b : Bool) → ltb n 10 ≡ b → (n / 10 < most → P (n / 10) (digits most (n / 10)))
-            → P n (elim b [ true ↦ (48 + n) ∷ [] | false ↦ digits most (n / 10) ++ ((48 + n % 10) ∷ []) ])
-        pick true e ih = one n (ltb-true n 10 e)
-        pick false e ih = let large : 10 ≤ n = ltb-false n 10 e in more n (digits most (n / 10)) large (ih (omega arith))
-
-    pub decimal-induction : (n : ℕ) → P n (decimal n)
-    unfolding decimal
-    decimal-induction n = digits-induction (suc n) n (omega arith)
-
 -- the digits of a number below ten, and of any other
 digits-one : (most n : ℕ) → n < 10 → digits (suc most) n ≡ (48 + n) ∷ []
 unfolding digits
@@ -40,6 +20,24 @@ digits-one most n small = rw (lt-ltb n 10 small, digits)
 digits-more : (most n : ℕ) → 10 ≤ n → digits (suc most) n ≡ digits most (n / 10) ++ ((48 + n % 10) ∷ [])
 unfolding digits
 digits-more most n large = rw (le-ltb n 10 large, digits)
+
+-- what holds of one digit, and is kept by a digit more, holds of every number and its text
+module _
+    (P : ℕ → Bytes → Type 0)
+    (one : (n : ℕ) → n < 10 → P n ((48 + n) ∷ []))
+    (more : (n : ℕ) (ds : Bytes) → 10 ≤ n → P (n / 10) ds → P n (ds ++ ((48 + n % 10) ∷ [])))
+  where
+    digits-induction : (most n : ℕ) → n < most → P n (digits most n)
+    digits-induction zero n h = absurd (omega arith)
+    digits-induction (suc most) n h = pick (ltb n 10) refl (λ l. digits-induction most (n / 10) l)
+      where
+        pick : (b : Bool) → ltb n 10 ≡ b → (n / 10 < most → P (n / 10) (digits most (n / 10))) → P n (digits (suc most) n)
+        pick true e ih = let small = ltb-true n 10 e in rw (digits-one most n small) (one n small)
+        pick false e ih = let large = ltb-false n 10 e in rw (digits-more most n large) (more n _ large (ih (omega arith)))
+
+    pub decimal-induction : (n : ℕ) → P n (decimal n)
+    unfolding decimal
+    decimal-induction n = digits-induction (suc n) n (omega arith)
 
 -- the bound does not matter where it is large enough
 digits-decimal : (n most : ℕ) → n < most → digits most n ≡ decimal n
@@ -72,7 +70,7 @@ value-decimal = decimal-induction (λ n ds. value ds ≡ n) (λ n small. omega a
     more : (n : ℕ) (ds : Bytes) → 10 ≤ n → value ds ≡ n / 10 → value (ds ++ ((48 + n % 10) ∷ [])) ≡ n
     more n ds large ih = rw (valueAfter-append 0 ds, ih) (omega arith)
 
-pub digit-bounds : (d : ℕ) → isDigit d ≡ true → (48 ≤ d) × (d ≤ 57)
+digit-bounds : (d : ℕ) → isDigit d ≡ true → (48 ≤ d) × (d ≤ 57)
 digit-bounds d e = (leb-true 48 d (and-left (leb 48 d) _ e), leb-true d 57 (and-right (leb 48 d) _ e))
 
 isDigit-digit : (n : ℕ) → n < 10 → isDigit (48 + n) ≡ true

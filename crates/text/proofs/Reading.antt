@@ -27,11 +27,21 @@ abbrev pub OneOrMore : {A : Type 0} → (A → Type 0) → List A → Type 0
 OneOrMore P [] = ⊥
 OneOrMore P (a ∷ rest) = Each P (a ∷ rest)
 
--- a thing that fits was read at the head of a text s, and has the text that stood there
+pub each-some : {A : Type 0} (P : A → Type 0) (items : List A) → OneOrMore P items → Each P items
+each-some P [] some = absurd some
+each-some P (a ∷ items) some = some
+
+pub each-weaken : {A : Type 0} (P Q : A → Type 0) → ((a : A) → P a → Q a) → (items : List A) → Each P items → Each Q items
+each-weaken P Q h [] each = tt
+each-weaken P Q h (a ∷ items) each = (h a (each .0), each-weaken P Q h items (each .1))
+
+-- What a reader reads has that text.
+
+-- a thing was read at the head of a text s: it fits, and has the text that stood there
 abbrev pub Read : {A : Type 0} → (A → Type 0) → (A → Bytes) → Bytes → A × Bytes → Type 0
 Read Fits text s p = Fits (p .0) × (s ≡ text (p .0) ++ p .1)
 
--- whatever r reads behind some bytes, these belong to its text
+-- whatever r reads behind some bytes fits, and has the text of these bytes and of those that r took
 pub record Reads {A : Type 0} (before : Bytes) (Fits : A → Type 0) (text : A → Bytes) (r : Reader A) : Type 0 where
   pub sound : (s : Bytes) → Allowed (Read Fits text (before ++ s)) (r s)
 
@@ -45,16 +55,18 @@ module _ {A : Type 0} {before : Bytes} {Fits : A → Type 0} {text : A → Bytes
   pub reads-then : {B : Type 0} {Part : B → Type 0} {partText : B → Bytes} {r : Reader B} → Reads [] Part partText r → (k : B → Reader A)
       → ((b : B) → Part b → Reads (before ++ partText b) Fits text (k b)) → Reads before Fits text (r >>= k)
   reads-then {B} {Part} {partText} {r} first k rest =
-      record { sound = λ s. allowed-bind (Read Part partText s) (Read Fits text (before ++ s)) _ (go s) (r s) (first .sound s) }
+      record { sound = λ s. allowed-bind (Read Part partText s) (Read Fits text (before ++ s)) _ (onward s) (r s) (first .sound s) }
     where
-      go : (s : Bytes) (p : B × Bytes) → Read Part partText s p → Allowed (Read Fits text (before ++ s)) (k (p .0) (p .1))
-      go s p q = rw (q .1, ← append-assoc) (rest (p .0) (q .0) .sound (p .1))
+      onward : (s : Bytes) (p : B × Bytes) → Read Part partText s p → Allowed (Read Fits text (before ++ s)) (k (p .0) (p .1))
+      onward s p q = rw (q .1, ← append-assoc) (rest (p .0) (q .0) .sound (p .1))
 
+  -- what is known to fit, and its text, may be put otherwise
   pub reads-weaken : {Part : A → Type 0} {partText : A → Bytes} {r : Reader A} → Reads before Part partText r
       → ((a : A) → Part a → Fits a × (partText a ≡ text a)) → Reads before Fits text r
   reads-weaken {r = r} reads h =
       record { sound = λ s. allowed-weaken _ _ (λ p q. let k = h (p .0) (q .0) in (k .0, q .1 ∙ ap (λ t. t ++ p .1) (k .1))) (r s) (reads .sound s) }
 
+  -- one or other reader, by a test
   pub reads-cond : (test : Bytes → Bool) {r q : Reader A} → Reads before Fits text r → Reads before Fits text q
       → Reads before Fits text (λ s. cond (test s) r q s)
   reads-cond test {r} {q} one other = record { sound = λ s. pick s (test s) }
@@ -67,7 +79,7 @@ pub reads-require : (number : ℕ) (test : Bool) → Reads [] (λ u. test ≡ tr
 reads-require number true = record { sound = λ s. (refl, refl) }
 reads-require number false = record { sound = λ s. tt }
 
--- a text that begins with a word
+-- a text that begins with a word is that word and the rest
 begins-split : (w s : Bytes) → begins w s ≡ true → s ≡ w ++ drop (length w) s
 begins-split [] s e = refl
 begins-split (a ∷ w) [] e = absurd (false≢true e)
@@ -76,9 +88,11 @@ begins-split (a ∷ w) (b ∷ s) e =
 
 pub reads-word : (number : ℕ) (w : Bytes) → Reads [] (λ u. Unit {0}) (λ u. w) (word number w)
 unfolding word
-reads-word number w = record { sound = λ s. allowed-mapped _ _ _ (λ u e. (tt, begins-split w s e)) (provided (begins w s) number) (allowed-provided (begins w s) number) }
+reads-word number w =
+    record { sound = λ s. allowed-mapped _ _ _ (λ u e. (tt, begins-split w s e)) (provided (begins w s) number) (allowed-provided (begins w s) number) }
 
 module _ (class : ℕ → Bool) where
+  -- a text is its longest run of a class and the rest
   span-split : (s : Bytes) → (every class (span class s) ≡ true) × (s ≡ span class s ++ drop (length (span class s)) s)
   unfolding span
   span-split [] = (refl, refl)
@@ -142,7 +156,7 @@ module _ {A : Type 0} {Fits : A → Type 0} {text : A → Bytes} {item : Reader 
 
 -- The text of a thing is read as that thing.
 
--- r reads the text of a back, where no byte of a class that could belong to it follows
+-- r reads the text of a as a, where no byte of a class follows that could belong to it
 abbrev pub ReadsBack : {A : Type 0} → (ℕ → Bool) → (A → Bytes) → Reader A → A → Type 0
 ReadsBack class text r a = (u : Bytes) → class (next u) ≡ false → r (text a ++ u) ≡ done (a, u)
 
