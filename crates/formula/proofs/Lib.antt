@@ -8,4 +8,6 @@ pub mod Kept
 pub mod Soundness
 pub mod Normal
 pub mod GroundSize
+pub mod Clauses
 pub mod Reading
+pub mod Refusals

@@ -17,7 +17,7 @@ use Rattle.text.specs.Derivation.{ruleText, positionText, ruleLineText, lineTex
 use Rattle.text.proofs.Laws.{and-left, and-right}
 use Rattle.text.proofs.Outcome.{Allowed, allowed-mapped, allowed-bind, allowed-weaken, allowed-done}
 use Rattle.text.proofs.Derivation.{reads-line, read-line, reads-version, read-version, reads-grounder, read-grounder}
-use Rattle.text.proofs.Lines.{Run, rest, more, RunsTo, readText-exactly}
+use Rattle.text.proofs.Lines.{Run, rest, more, run-more, RunsTo, readText-exactly}
 use Rattle.formula.specs.Formula.{Formula}
 use Rattle.replay.specs.Theory.{State, initial, stepped}
 use Rattle.replay.specs.Steps.{Step, Steps, stop, go}
@@ -155,22 +155,18 @@ module _ (P : Problem) (T : List Formula) where
   shrinks place s =
       allowed-weaken (λ p. Says place s (p .0) (p .1)) (λ p. length (p .1) < length s) (λ p e. says-shrinks place (p .0) s (p .1) e) (derivationLine P T place s) (line-says place s)
 
-  run-on : (place u v : Place) (s t : Bytes) → derivationLine P T place s ≡ done (u, t) → Run (derivationLine P T) u t v → Run (derivationLine P T) place s v
-  run-on place u v [] t e n = absurd (omega (arith, allowed-done (λ p. length (p .1) < 0) (derivationLine P T place []) (u, t) (shrinks place []) e))
-  run-on place u v (b ∷ s) t e n = more place u v b s t e n
-
   left-run : (lines : List RuleLine) (st last : State) (rules total : ℕ) (final : List ℕ) → ruleLinesFit lines ≡ true → areNames final ≡ true → Steps P st lines last
       → total ≡ rules + length lines → Run (derivationLine P T) (among st rules) (ruleLinesText lines (lineText (footer final))) (bottom last total final)
   unfolding derivationLine lineText
   left-run lines st last rules total final f n (stop w) e =
       let z : total ≡ rules = omega arith in
       rw z
-      (run-on (among st rules) (bottom st rules final) (bottom st rules final) (lineText (footer final)) []
+      (run-more 3 (derivationLine P T) wholeDerivation shrinks (among st rules) (bottom st rules final) (bottom st rules final) (lineText (footer final)) []
       (rw (rw (append-nil (lineText (footer final))) at (read-line (footer final) [] n)))
       (rest (bottom st rules final)))
   left-run lines st last rules total final f n (go w u v l ls m k) e =
       let t = ruleLinesText ls (lineText (footer final)) in
-      run-on (among w rules) (among u (suc rules)) (bottom v total final) (lineText (step l) ++ t) t
+      run-more 3 (derivationLine P T) wholeDerivation shrinks (among w rules) (among u (suc rules)) (bottom v total final) (lineText (step l) ++ t) t
       (rw (read-line (step l) t (and-left (ruleLineFits l) _ f), step-stepped P w u l m))
       (left-run ls u v (suc rules) total final (and-right (ruleLineFits l) _ f) n k (omega arith))
 
@@ -184,8 +180,8 @@ module _ (P : Problem) (T : List Formula) where
       record {
         last = bottom (R .last) (R .rules) (D .final);
         run = rw (d .text)
-            (run-on top heading (bottom (R .last) (R .rules) (D .final)) (derivationText D) (grounderText g ++ body) (rw (read-version (grounderText g ++ body)))
-            (run-on heading (among (initial T) 0) (bottom (R .last) (R .rules) (D .final)) (grounderText g ++ body) body
+            (run-more 3 (derivationLine P T) wholeDerivation shrinks top heading (bottom (R .last) (R .rules) (D .final)) (derivationText D) (grounderText g ++ body) (rw (read-version (grounderText g ++ body)))
+            (run-more 3 (derivationLine P T) wholeDerivation shrinks heading (among (initial T) 0) (bottom (R .last) (R .rules) (D .final)) (grounderText g ++ body) body
             (rw (read-grounder g body (and-left (isGrounder g) _ (d .fits))))
             (left-run (D .lines) (initial T) (R .last) 0 (R .rules) (D .final) (and-left (ruleLinesFit (D .lines)) _ fits) (and-right (ruleLinesFit (D .lines)) _ fits) (d .steps)
             (omega (arith, d .counted)))));

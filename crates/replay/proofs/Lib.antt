@@ -3,3 +3,8 @@ pub mod Theory
 pub mod Soundness
 pub mod Derivation
 pub mod Cases
+pub mod TheoryText
+pub mod Refusals
+pub mod Ground
+pub mod Accepted
+pub mod Demands

@@ -8,3 +8,4 @@ pub mod Lines
 pub mod Problem
 pub mod ProblemText
 pub mod Derivation
+pub mod Refusals

@@ -16,7 +16,7 @@ use Rattle.text.specs.Reading.{Reader}
 use Rattle.text.specs.Lines.{onLine, readLines, readText, isLF, lineSize, linesSize, lineStart, refusedLine}
 use Rattle.text.proofs.Laws.{and-left, and-right}
 use Rattle.text.proofs.Reading.{Reads}
-use Rattle.text.proofs.Outcome.{Allowed, allowed-bind, allowed-weaken, allowed-done}
+use Rattle.text.proofs.Outcome.{Allowed, allowed-bind, allowed-weaken, allowed-done, allowed-itself}
 
 -- where a refusal is reported makes no difference to what is allowed
 allowed-onLine : {A : Type 0} (Q : A → Type 0) (file line : ℕ) (o : Outcome ℕ A) → Allowed Q o → Allowed Q (onLine file line o)
@@ -92,14 +92,15 @@ pub record RunsTo {S A : Type 0} (line : S → Reader S) (finish : S → Outcome
   pub run : Run line state s last
   pub answer : finish last ≡ done a
 
-itself : {E A : Type 0} (o : Outcome E A) → Allowed (λ a. o ≡ done a) o
-itself (done a) = refl
-itself (refused e) = tt
-
 module _ {S A : Type 0} (file : ℕ) (line : S → Reader S) (finish : S → Outcome ℕ A)
     (shrinks : (state : S) (s : Bytes) → Allowed (λ p. length (p .1) < length s) (line state s)) where
   shorter : (state : S) (s : Bytes) (p : S × Bytes) → line state s ≡ done p → length (p .1) < length s
   shorter state s p = allowed-done _ (line state s) p (shrinks state s)
+
+  -- a line before a run
+  pub run-more : (state u v : S) (s t : Bytes) → line state s ≡ done (u, t) → Run line u t v → Run line state s v
+  run-more state u v [] t e r = absurd (omega (arith, shorter state [] (u, t) e))
+  run-more state u v (b ∷ s) t e r = more state u v b s t e r
 
   -- the lines read so far go before any run of the others
   pub readText-runs : (state : S) (s : Bytes) → Allowed (RunsTo line finish state s) (readText file line finish state s)
@@ -107,8 +108,8 @@ module _ {S A : Type 0} (file : ℕ) (line : S → Reader S) (finish : S → Out
       readText-leads file line finish (λ state s. (v : S) → Run line state s v → Run line first whole v) (RunsTo line finish first whole)
       (λ state b s i. allowed-weaken _ _
       (λ p e. (λ v r. i v (more state (p .0) v b s (p .1) e r), omega (arith, shorter state (b ∷ s) p e)))
-      (line state (b ∷ s)) (itself (line state (b ∷ s))))
-      (λ state i. allowed-weaken _ _ (λ a e. record { last = state; run = i state (rest state); answer = e }) (finish state) (itself (finish state)))
+      (line state (b ∷ s)) (allowed-itself (line state (b ∷ s))))
+      (λ state i. allowed-weaken _ _ (λ a e. record { last = state; run = i state (rest state); answer = e }) (finish state) (allowed-itself (finish state)))
       first whole (λ v r. r)
 
   run-readLines : (a : A) (most k : ℕ) (state v : S) (s : Bytes) → length s ≤ most → Run line state s v → finish v ≡ done a

@@ -38,3 +38,8 @@ allowed-provided false e = tt
 pub allowed-any : {E A : Type 0} (o : Outcome E A) → Allowed (λ a. Unit {0}) o
 allowed-any (done a) = tt
 allowed-any (refused e) = tt
+
+-- an outcome is what it is
+pub allowed-itself : {E A : Type 0} (o : Outcome E A) → Allowed (λ a. o ≡ done a) o
+allowed-itself (done a) = refl
+allowed-itself (refused e) = tt

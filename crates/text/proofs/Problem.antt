@@ -164,18 +164,19 @@ module _ (P : Problem) (valid : Valid P) where
 named-occurs : (qs : List Predicate) (p : Name) → named qs p ≡ true → 1 ≤ occurrences qs p
 named-occurs qs p e = leb-true 1 (occurrences qs p) (rw named-occurrences at e)
 
-named-short : (qs : List Predicate) (p : Name) → Each Small qs → named qs p ≡ true → length p ≤ 15
-named-short [] p small e = absurd (false≢true e)
-named-short (q ∷ qs) p small e = pick (same p (q .name)) refl e (named-short qs p (small .1))
+named-small : (qs : List Predicate) (p : Name) → Each Small qs → named qs p ≡ true → (isName p ≡ true) × (length p ≤ 15)
+named-small [] p small e = absurd (false≢true e)
+named-small (q ∷ qs) p small e = pick (same p (q .name)) refl e (named-small qs p (small .1))
   where
-    pick : (b : Bool) → same p (q .name) ≡ b → (b || named qs p) ≡ true → (named qs p ≡ true → length p ≤ 15) → length p ≤ 15
-    pick true f h ih = rw (same-true p (q .name) f) (small .0 .short)
+    pick : (b : Bool) → same p (q .name) ≡ b → (b || named qs p) ≡ true → (named qs p ≡ true → (isName p ≡ true) × (length p ≤ 15))
+        → (isName p ≡ true) × (length p ≤ 15)
+    pick true f h ih = rw (same-true p (q .name) f) (small .0 .spelled, small .0 .short)
     pick false f h ih = ih h
 
 module _ (P : Problem) (valid : Valid P) (p : Name) where
-  pub isOutput-short : isOutput P p ≡ true → length p ≤ 15
-  isOutput-short e =
-      named-short (predicates P) p (valid .declares .small)
+  pub isOutput-small : isOutput P p ≡ true → (isName p ≡ true) × (length p ≤ 15)
+  isOutput-small e =
+      named-small (predicates P) p (valid .declares .small)
       (rw (named-occurrences, occurrences-append)
       (le-leb 1 (occurrences (inputPredicates P) p + occurrences (P .outputs) p) (omega (arith, named-occurs (P .outputs) p e))))
 
