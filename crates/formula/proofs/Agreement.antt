@@ -11,7 +11,7 @@ use Rattle.text.proofs.Laws.{and-left, and-right}
 use Rattle.formula.specs.Formula.{Term, element, variable, Terms, noTerms, term}
 use Rattle.formula.specs.Formula.{Formula, truth, atom, equal, connective, quantifier, Formulas, noParts, part}
 use Rattle.formula.specs.Names.{besides, termClosed, termsClosed, closed, allClosed}
-use Rattle.formula.specs.Normal.{inputsOnly, allInputsOnly}
+use Rattle.formula.specs.Normal.{mentionsOnly, allMentionOnly, inputsOnly}
 use Rattle.formula.specs.Meaning.{Structure, Environment, bind, valueOf, valuesOf, connect, holds, truths}
 use Rattle.formula.proofs.Meaning.{holds-quantifier}
 
@@ -38,7 +38,7 @@ module _ (bound : Name → Bool) (ρ σ : Environment) (alike : Alike bound ρ �
 module _ (P : Problem) (S T : Structure) (domains : S .domain ≡ T .domain)
     (agree : (p : Name) (row : Row) → isInput P p ≡ true → S .relation p row ≡ T .relation p row) where
   mutual
-    unfolding holds closed inputsOnly
+    unfolding holds closed mentionsOnly
 
     pub holds-agree : (f : Formula) (bound : Name → Bool) (ρ σ : Environment) → Alike bound ρ σ
         → closed bound f ≡ true → inputsOnly P f ≡ true → holds S ρ f ≡ holds T σ f
@@ -54,7 +54,7 @@ module _ (P : Problem) (S T : Structure) (domains : S .domain ≡ T .domain)
         (and-right (closed (besides x bound) g) _ e) (and-right (inputsOnly P g) _ i))
 
     truths-agree : (fs : Formulas) (bound : Name → Bool) (ρ σ : Environment) → Alike bound ρ σ
-        → allClosed bound fs ≡ true → allInputsOnly P fs ≡ true → truths S ρ fs ≡ truths T σ fs
+        → allClosed bound fs ≡ true → allMentionOnly (isInput P) fs ≡ true → truths S ρ fs ≡ truths T σ fs
     truths-agree noParts bound ρ σ alike e i = refl
     truths-agree (part f fs) bound ρ σ alike e i =
         ap₂ (λ (b : Bool) (bs : List Bool). b ∷ bs)

@@ -6,7 +6,7 @@ use Rattle.text.specs.Problem.{Name, Problem, isInput, isOutput}
 use Rattle.text.proofs.Laws.{and-left, and-right}
 use Rattle.formula.specs.Formula.{Terms, all, any, Connective, negation, implies, impliedBy, equivalent, junction}
 use Rattle.formula.specs.Formula.{Formula, truth, atom, equal, connective, quantifier, Formulas, noParts, part}
-use Rattle.formula.specs.Normal.{elementsOnly, connectiveClause, isClause, allClauses}
+use Rattle.formula.specs.Normal.{mentionsOnly, allMentionOnly, elementsOnly, connectiveClause, isClause, allClauses}
 
 -- an atom of an output predicate with elements only, one such negated, or `|` of one or more clauses
 mutual
@@ -51,19 +51,6 @@ mutual
   allClauses-clauses : (P : Problem) (fs : Formulas) → allClauses P fs ≡ true → Clauses P fs
   allClauses-clauses P noParts e = noClauses
   allClauses-clauses P (part f fs) e = clause (isClause-clause P f (and-left _ _ e)) (allClauses-clauses P fs (and-right (isClause P f) _ e))
-
--- every predicate passes a test
-unfoldable mutual
-  pub mentionsOnly : (Name → Bool) → Formula → Bool
-  mentionsOnly test (truth b) = true
-  mentionsOnly test (atom p ts) = test p
-  mentionsOnly test (equal s t) = true
-  mentionsOnly test (connective o fs) = allMentionOnly test fs
-  mentionsOnly test (quantifier c x g f) = mentionsOnly test g && mentionsOnly test f
-
-  pub allMentionOnly : (Name → Bool) → Formulas → Bool
-  allMentionOnly test noParts = true
-  allMentionOnly test (part f fs) = mentionsOnly test f && allMentionOnly test fs
 
 module _ (P : Problem) (test : Name → Bool) (passed : (p : Name) → isOutput P p ≡ true → test p ≡ true) where
   mutual

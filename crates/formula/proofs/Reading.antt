@@ -12,9 +12,9 @@ use Rattle.text.specs.Numbers.{decimal}
 use Rattle.text.specs.Outcome.{done}
 use Rattle.text.specs.Reading.{Reader, give, word, _⇒_, oneOf}
 use Rattle.text.specs.Problem.{Name, isName, readName}
-use Rattle.text.proofs.Laws.{and-left, and-right, or-left, or-right}
+use Rattle.text.proofs.Laws.{and-left, and-right, or-left, or-right, Each, each-weaken}
 use Rattle.text.proofs.Numbers.{decimal-first}
-use Rattle.text.proofs.Reading.{Each, OneOrMore, each-some, each-weaken, Reads, reads-refuse, reads-give, reads-then, reads-weaken, reads-cond}
+use Rattle.text.proofs.Reading.{OneOrMore, each-some, Reads, reads-refuse, reads-give, reads-then, reads-weaken, reads-cond}
 use Rattle.text.proofs.Reading.{reads-word, reads-token, reads-number, reads-oneOf, reads-separated}
 use Rattle.text.proofs.Reading.{ReadsBack, read-token, read-number, read-separated, oneOf-word, oneOf-last, next-append}
 use Rattle.formula.specs.Formula.{Term, element, variable, Terms, noTerms, term, termsOf}

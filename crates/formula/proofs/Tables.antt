@@ -18,7 +18,7 @@ use Rattle.formula.specs.Meaning.{unit}
 use Rattle.formula.specs.Rules.{Rewriting, hasTruth, without, unlessNone, simplified, isSide, simplify, evaluatePredicate, evaluateProposition}
 use Rattle.formula.specs.Rules.{apply, intoParts, into, at}
 use Rattle.formula.specs.Tables.{simplification, Makes, absorbing, dropping, negating, predicate, equality, proposition, instantiating}
-use Rattle.formula.specs.Tables.{Exchanged, first, later, MakesAt, here, inPart, inGuard, inBody}
+use Rattle.formula.specs.Tables.{Exchanged, first, later, AtPath, MakesAt, here, inPart, inGuard, inBody}
 use Rattle.formula.proofs.Rules.{onTruth-cases, onNegation-cases, onJunction-cases, onQuantifier-cases}
 
 module _ (P : Problem) where
@@ -110,31 +110,46 @@ exchanged-intoParts : (k : Rewriting) {i : ℕ} {g h : Formula} {fs hs : Formula
 exchanged-intoParts k (first g h fs) e = rw e
 exchanged-intoParts k (later i g h f fs hs q) e = rw (exchanged-intoParts k q e)
 
-module _ (P : Problem) (r : Rule) where
-  into-makes : (i : ℕ) (is : List ℕ) (k : Rewriting) → ((f : Formula) → Allowed (MakesAt P r is f) (k f))
-      → (f : Formula) → Allowed (MakesAt P r (i ∷ is) f) (into i k f)
-  into-makes i is k made (truth b) = tt
-  into-makes i is k made (atom p ts) = tt
-  into-makes i is k made (equal s t) = tt
-  into-makes i is k made (connective o fs) =
-      allowed-mapped (OneExchanged (MakesAt P r is) i fs) (MakesAt P r (i ∷ is) (connective o fs)) (connective o)
-      (λ hs (g, h, e, q). inPart i is o g h fs hs e q) (intoParts fs i k) (intoParts-exchanged (MakesAt P r is) k made fs i)
-  into-makes zero is k made (quantifier c x g f) =
-      allowed-mapped (MakesAt P r is g) (MakesAt P r (0 ∷ is) (quantifier c x g f)) (λ h. quantifier c x h f)
+-- what a rewriting makes at a path, where Q says what it makes of a formula
+module _ (Q : Formula → Formula → Type 0) where
+  into-path : (i : ℕ) (is : List ℕ) (k : Rewriting) → ((f : Formula) → Allowed (AtPath Q is f) (k f))
+      → (f : Formula) → Allowed (AtPath Q (i ∷ is) f) (into i k f)
+  into-path i is k made (truth b) = tt
+  into-path i is k made (atom p ts) = tt
+  into-path i is k made (equal s t) = tt
+  into-path i is k made (connective o fs) =
+      allowed-mapped (OneExchanged (AtPath Q is) i fs) (AtPath Q (i ∷ is) (connective o fs)) (connective o)
+      (λ hs (g, h, e, q). inPart i is o g h fs hs e q) (intoParts fs i k) (intoParts-exchanged (AtPath Q is) k made fs i)
+  into-path zero is k made (quantifier c x g f) =
+      allowed-mapped (AtPath Q is g) (AtPath Q (0 ∷ is) (quantifier c x g f)) (λ h. quantifier c x h f)
       (λ h q. inGuard is c x g h f q) (k g) (made g)
-  into-makes (suc zero) is k made (quantifier c x g f) =
-      allowed-mapped (MakesAt P r is f) (MakesAt P r (1 ∷ is) (quantifier c x g f)) (λ h. quantifier c x g h)
+  into-path (suc zero) is k made (quantifier c x g f) =
+      allowed-mapped (AtPath Q is f) (AtPath Q (1 ∷ is) (quantifier c x g f)) (λ h. quantifier c x g h)
       (λ h q. inBody is c x g f h q) (k f) (made f)
-  into-makes (suc (suc i)) is k made (quantifier c x g f) = tt
+  into-path (suc (suc i)) is k made (quantifier c x g f) = tt
 
+  pub at-path : (k : Rewriting) → ((f : Formula) → Allowed (Q f) (k f)) → (path : List ℕ) (f : Formula) → Allowed (AtPath Q path f) (at path k f)
+  at-path k made [] f = allowed-weaken (Q f) (AtPath Q [] f) (λ h q. here f h q) (k f) (made f)
+  at-path k made (i ∷ is) f = into-path i is (at is k) (λ h. at-path k made is h) f
+
+  pub path-at : (k : Rewriting) → ((f h : Formula) → Q f h → k f ≡ done h) → {path : List ℕ} {f h : Formula} → AtPath Q path f h → at path k f ≡ done h
+  path-at k made (here f h q) = made f h q
+  path-at k made (inPart i is o g h fs hs e q) = rw (exchanged-intoParts (at is k) e (path-at k made q))
+  path-at k made (inGuard is c x g h f q) = rw (path-at k made q)
+  path-at k made (inBody is c x g f h q) = rw (path-at k made q)
+
+module _ (P : Problem) (r : Rule) where
   -- a rule at a path makes only what the tables say
   pub at-makes : (path : List ℕ) (f : Formula) → Allowed (MakesAt P r path f) (at path (apply P r) f)
-  at-makes [] f = allowed-weaken (Makes P r f) (MakesAt P r [] f) (λ h q. here f h q) (apply P r f) (apply-makes P r f)
-  at-makes (i ∷ is) f = into-makes i is (at is (apply P r)) (λ h. at-makes is h) f
+  at-makes = at-path (Makes P r) (apply P r) (apply-makes P r)
 
   -- and all that the tables say
   pub makes-at : {path : List ℕ} {f h : Formula} → MakesAt P r path f h → at path (apply P r) f ≡ done h
-  makes-at (here f h q) = makes-apply P q
-  makes-at (inPart i is o g h fs hs e q) = rw (exchanged-intoParts (at is (apply P r)) e (makes-at q))
-  makes-at (inGuard is c x g h f q) = rw (makes-at q)
-  makes-at (inBody is c x g f h q) = rw (makes-at q)
+  makes-at q = path-at (Makes P r) (apply P r) (λ f h m. makes-apply P m) q
+
+-- where nothing is allowed, nothing is at any path
+pub path-never : {path : List ℕ} {f h : Formula} → AtPath (λ f h. ⊥) path f h → ⊥
+path-never (here f h q) = q
+path-never (inPart i is o g h fs hs e q) = path-never q
+path-never (inGuard is c x g h f q) = path-never q
+path-never (inBody is c x g f h q) = path-never q

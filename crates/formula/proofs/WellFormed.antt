@@ -11,7 +11,7 @@ use Rattle.text.proofs.Laws.{and-left, and-right}
 use Rattle.formula.specs.Formula.{Term, Terms, Side, all, Connective, negation, implies, impliedBy, equivalent, junction}
 use Rattle.formula.specs.Formula.{Formula, truth, atom, equal, connective, quantifier, Formulas, noParts, part, depth, depths}
 use Rattle.formula.specs.Names.{known, allKnown, none, besides, closed, allClosed, namesFit}
-use Rattle.formula.specs.Normal.{inputsOnly, allInputsOnly, isSimple, permits, connectiveForm, hasForm, allHaveForm, isGNF}
+use Rattle.formula.specs.Normal.{mentionsOnly, allMentionOnly, inputsOnly, isSimple, permits, connectiveForm, hasForm, allHaveForm, isGNF}
 
 -- `inside` a guard or not, with the variables `bound` around, and so many levels left
 mutual
@@ -61,7 +61,7 @@ pub record Tested (P : Problem) (inside : Bool) (bound : Name → Bool) (levels 
   pub isInputs : inside ≡ true → inputsOnly P f ≡ true
 
 mutual
-  unfolding known closed depth inputsOnly
+  unfolding known closed depth mentionsOnly
 
   pub wellFormed-tested : {P : Problem} {inside : Bool} {bound : Name → Bool} {levels : ℕ} {f : Formula}
       → WellFormed P inside bound levels f → Tested P inside bound levels f
@@ -102,7 +102,7 @@ Asked P true f = inputsOnly P f ≡ true
 Asked P false f = (c : Side) × (hasForm P c f ≡ true)
 
 abbrev AllAsked : Problem → Bool → Formulas → Type 0
-AllAsked P true fs = allInputsOnly P fs ≡ true
+AllAsked P true fs = allMentionOnly (isInput P) fs ≡ true
 AllAsked P false fs = (c : Side) × (allHaveForm P c fs ≡ true)
 
 module _ (P : Problem) where
@@ -126,24 +126,24 @@ module _ (P : Problem) where
   form-parts c (junction d) fs e = (d, and-right (permits c d) _ e)
 
   asked-atom : (inside : Bool) (p : Name) (ts : Terms) → Asked P inside (atom p ts) → inside ≡ true → isInput P p ≡ true
-  unfolding inputsOnly
+  unfolding mentionsOnly
   asked-atom true p ts a i = a
   asked-atom false p ts a i = absurd (false≢true i)
 
   asked-parts : (inside : Bool) (o : Connective) (fs : Formulas) → Asked P inside (connective o fs) → AllAsked P inside fs
-  unfolding inputsOnly hasForm
+  unfolding mentionsOnly hasForm
   asked-parts true o fs a = a
   asked-parts false o fs (c, e) = form-parts c o fs e
 
   asked-quantifier : (inside : Bool) (c : Side) (x : Name) (g f : Formula) → Asked P inside (quantifier c x g f) → Asked P true g × Asked P inside f
-  unfolding inputsOnly hasForm
+  unfolding mentionsOnly hasForm
   asked-quantifier true c x g f a = (and-left _ _ a, and-right (inputsOnly P g) _ a)
   asked-quantifier false d x g f (c, e) =
       let both = and-right (permits c d) _ e in
       (and-left (inputsOnly P g) _ both, (d, and-right (inputsOnly P g) _ both))
 
   asked-part : (inside : Bool) (f : Formula) (fs : Formulas) → AllAsked P inside (part f fs) → Asked P inside f × AllAsked P inside fs
-  unfolding inputsOnly hasForm
+  unfolding mentionsOnly hasForm
   asked-part true f fs a = (and-left _ _ a, and-right (inputsOnly P f) _ a)
   asked-part false f fs (c, e) = ((c, and-left _ _ e), (c, and-right (hasForm P c f) _ e))
 

@@ -1,21 +1,25 @@
 -- Number 8: literals, disjunctive form and GNF; and ground clauses, number 17.
 use mathlib.Core.Bool.{Bool, true, false, _&&_}
-use Rattle.text.specs.Problem.{Problem, isInput, isOutput}
+use Rattle.text.specs.Problem.{Name, Problem, isInput, isOutput}
 use Rattle.formula.specs.Formula.{Term, element, variable, Terms, noTerms, term, Side, all, any, Connective, negation, implies, impliedBy, equivalent, junction}
 use Rattle.formula.specs.Formula.{Formula, truth, atom, equal, connective, quantifier, Formulas, noParts, part}
 
--- predicates are all input predicates
+-- every predicate passes a test
 unfoldable mutual
-  pub inputsOnly : Problem → Formula → Bool
-  inputsOnly P (truth b) = true
-  inputsOnly P (atom p ts) = isInput P p
-  inputsOnly P (equal s t) = true
-  inputsOnly P (connective o fs) = allInputsOnly P fs
-  inputsOnly P (quantifier c x g f) = inputsOnly P g && inputsOnly P f
+  pub mentionsOnly : (Name → Bool) → Formula → Bool
+  mentionsOnly test (truth b) = true
+  mentionsOnly test (atom p ts) = test p
+  mentionsOnly test (equal s t) = true
+  mentionsOnly test (connective o fs) = allMentionOnly test fs
+  mentionsOnly test (quantifier c x g f) = mentionsOnly test g && mentionsOnly test f
 
-  pub allInputsOnly : Problem → Formulas → Bool
-  allInputsOnly P noParts = true
-  allInputsOnly P (part f fs) = inputsOnly P f && allInputsOnly P fs
+  pub allMentionOnly : (Name → Bool) → Formulas → Bool
+  allMentionOnly test noParts = true
+  allMentionOnly test (part f fs) = mentionsOnly test f && allMentionOnly test fs
+
+-- its predicates are all input predicates
+abbrev pub inputsOnly : Problem → Formula → Bool
+inputsOnly P f = mentionsOnly (isInput P) f
 
 -- a truth value, an atom or an equality
 abbrev pub isSimple : Formula → Bool

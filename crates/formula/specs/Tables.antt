@@ -40,12 +40,14 @@ pub data Exchanged : ℕ → Formula → Formula → Formulas → Formulas → T
   first : (g h : Formula) (fs : Formulas) → Exchanged zero g h (part g fs) (part h fs)
   later : (i : ℕ) (g h f : Formula) (fs hs : Formulas) → Exchanged i g h fs hs → Exchanged (suc i) g h (part f fs) (part f hs)
 
+-- the second formula is the first with what Q allows at a path
+pub data AtPath (Q : Formula → Formula → Type 0) : List ℕ → Formula → Formula → Type 0 where
+  here : (f h : Formula) → Q f h → AtPath Q [] f h
+  inPart : (i : ℕ) (is : List ℕ) (o : Connective) (g h : Formula) (fs hs : Formulas) → Exchanged i g h fs hs → AtPath Q is g h
+      → AtPath Q (i ∷ is) (connective o fs) (connective o hs)
+  inGuard : (is : List ℕ) (c : Side) (x : Name) (g h f : Formula) → AtPath Q is g h → AtPath Q (0 ∷ is) (quantifier c x g f) (quantifier c x h f)
+  inBody : (is : List ℕ) (c : Side) (x : Name) (g f h : Formula) → AtPath Q is f h → AtPath Q (1 ∷ is) (quantifier c x g f) (quantifier c x g h)
+
 -- the rule, at a path, makes the second formula of the first
-pub data MakesAt (P : Problem) (r : Rule) : List ℕ → Formula → Formula → Type 0 where
-  here : (f h : Formula) → Makes P r f h → MakesAt P r [] f h
-  inPart : (i : ℕ) (is : List ℕ) (o : Connective) (g h : Formula) (fs hs : Formulas) → Exchanged i g h fs hs → MakesAt P r is g h
-      → MakesAt P r (i ∷ is) (connective o fs) (connective o hs)
-  inGuard : (is : List ℕ) (c : Side) (x : Name) (g h f : Formula) → MakesAt P r is g h
-      → MakesAt P r (0 ∷ is) (quantifier c x g f) (quantifier c x h f)
-  inBody : (is : List ℕ) (c : Side) (x : Name) (g f h : Formula) → MakesAt P r is f h
-      → MakesAt P r (1 ∷ is) (quantifier c x g f) (quantifier c x g h)
+abbrev pub MakesAt : Problem → Rule → List ℕ → Formula → Formula → Type 0
+MakesAt P r = AtPath (Makes P r)

@@ -13,23 +13,22 @@ use Rattle.text.specs.Bytes.{Bytes, same}
 use Rattle.text.specs.Outcome.{Outcome, done, refused, provided, _>>=_, _>>_}
 use Rattle.text.specs.Lines.{Refusal, Judged, refusal}
 use Rattle.text.specs.Problem.{Name, Problem, problemOf, isInput, isOutput}
-use Rattle.text.proofs.Laws.{and-left, and-right, same-refl, same-true}
+use Rattle.text.proofs.Laws.{and-left, and-right, same-refl, same-true, Each}
 use Rattle.text.proofs.Outcome.{Allowed, allowed-bind, allowed-weaken, allowed-provided, allowed-done, allowed-itself}
 use Rattle.text.proofs.Problem.{Valid, isInput-not-isOutput}
 use Rattle.text.proofs.ProblemText.{problemOf-valid}
 use Rattle.formula.specs.Formula.{Formula, truth}
 use Rattle.formula.specs.Meaning.{Structure, Extends, nowhere, holds, satisfies}
-use Rattle.formula.specs.Normal.{isClause}
+use Rattle.formula.specs.Normal.{mentionsOnly, isClause}
 use Rattle.formula.specs.Limits.{sizesFit}
 use Rattle.formula.proofs.WellFormed.{wellFormed-parts}
 use Rattle.formula.proofs.Kept.{makesAt-kept}
 use Rattle.formula.proofs.Soundness.{makesAt-same}
-use Rattle.formula.proofs.Normal.{mentionsOnly, clause-noInput}
+use Rattle.formula.proofs.Normal.{clause-noInput}
 use Rattle.replay.specs.Theory.{theoryOf, formulasOf, namesOf, State, live, ended, liveTheory, initial}
 use Rattle.replay.specs.Replay.{Replayed, derivationOf, areClauses, isGround, theoryText, Ground, groundText, groundOf, footerLine}
 use Rattle.replay.specs.Answer.{room, claimed, differenceLine, grounded, replayed, checked}
 use Rattle.replay.specs.Accepted.{Grounds, finalFormulas, finalText, Fits}
-use Rattle.replay.proofs.Theory.{Every}
 use Rattle.replay.proofs.Soundness.{Live, steps-sound}
 use Rattle.replay.proofs.Derivation.{Derived, derivation-exactly}
 use Rattle.replay.proofs.TheoryText.{ValidTheory, theoryOf-reads}
@@ -117,7 +116,7 @@ module _ (problem theory derivation : Bytes) (P : Problem) (T : List Formula) (r
   unfolding holds
   final-unsat n used e = (rw e, λ S extends. final-same S extends ∙ rw e)
 
-  clauses-outputs : (fs : List Formula) → areClauses P fs ≡ true → Every (λ f. mentionsOnly (λ p. not (isInput P p)) f ≡ true) fs
+  clauses-outputs : (fs : List Formula) → areClauses P fs ≡ true → Each (λ f. mentionsOnly (λ p. not (isInput P p)) f ≡ true) fs
   clauses-outputs [] e = tt
   clauses-outputs (f ∷ fs) e =
       (clause-noInput P (λ p o. input-free p o) f (and-left _ _ e), clauses-outputs fs (and-right (isClause P f) _ e))
@@ -130,11 +129,11 @@ module _ (problem theory derivation : Bytes) (P : Problem) (T : List Formula) (r
           pick false i = refl
 
   -- no final formula mentions an input predicate
-  pub final-outputs : Every (λ f. mentionsOnly (λ p. not (isInput P p)) f ≡ true) (finalFormulas g)
+  pub final-outputs : Each (λ f. mentionsOnly (λ p. not (isInput P p)) f ≡ true) (finalFormulas g)
   unfolding mentionsOnly
   final-outputs = at (g .last) (g .ground)
     where
-      at : (s : State) → isGround P s ≡ true → Every (λ f. mentionsOnly (λ p. not (isInput P p)) f ≡ true) (formulasOf (liveTheory s))
+      at : (s : State) → isGround P s ≡ true → Each (λ f. mentionsOnly (λ p. not (isInput P p)) f ≡ true) (formulasOf (liveTheory s))
       at (live t used) e = clauses-outputs (formulasOf t) e
       at (ended n used) e = (refl, tt)
 

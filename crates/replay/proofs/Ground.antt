@@ -13,7 +13,7 @@ use Rattle.text.specs.Bytes.{Bytes, bytes}
 use Rattle.text.specs.Outcome.{done}
 use Rattle.text.specs.Problem.{Problem}
 use Rattle.text.specs.Derivation.{RuleLine}
-use Rattle.text.proofs.Laws.{and-left, and-right}
+use Rattle.text.proofs.Laws.{and-left, and-right, Each, each-weaken, each-append}
 use Rattle.text.proofs.Problem.{Valid, isOutput-small}
 use Rattle.formula.specs.Formula.{Formula, truth, connective, junction, all, Formulas, noParts, part, size, depth}
 use Rattle.formula.specs.Text.{spelled, textOf}
@@ -28,17 +28,13 @@ use Rattle.formula.proofs.Clauses.{clause-variables, clause-guards, clause-form
 use Rattle.replay.specs.Theory.{theoryOf, entry, Theory, formulasOf, numbered, State, live, ended, liveTheory, initial}
 use Rattle.replay.specs.Steps.{Step, rewriting, removing, splitting, ending, Steps, stop, go}
 use Rattle.replay.specs.Replay.{areClauses, isGround, theoryText}
-use Rattle.replay.proofs.Theory.{Every, EveryPart}
+use Rattle.replay.proofs.Theory.{EachPart}
 use Rattle.replay.proofs.Soundness.{Live, steps-every}
-use Rattle.replay.proofs.TheoryText.{Passed, Fitting, every-snoc, read-theory}
+use Rattle.replay.proofs.TheoryText.{Passed, Fitting, read-theory}
 
 pub formulas-numbered : (n : ℕ) (fs : List Formula) → formulasOf (numbered n fs) ≡ fs
 formulas-numbered n [] = refl
 formulas-numbered n (f ∷ fs) = ap (λ (gs : List Formula). f ∷ gs) (formulas-numbered (suc n) fs)
-
-every-weaken : (Q W : Formula → Type 0) → ((f : Formula) → Q f → W f) → (fs : List Formula) → Every Q fs → Every W fs
-every-weaken Q W h [] q = tt
-every-weaken Q W h (f ∷ fs) q = (h f (q .0), every-weaken Q W h fs (q .1))
 
 -- Within the sizes.
 
@@ -69,7 +65,7 @@ module _ (P : Problem) where
   abbrev pub Well : Formula → Type 0
   Well f = WellFormed P false none levelCount f
 
-  pub parts-well : (fs : Formulas) → AllWellFormed P false none levelCount fs → EveryPart Well fs
+  pub parts-well : (fs : Formulas) → AllWellFormed P false none levelCount fs → EachPart Well fs
   parts-well noParts ofNone = tt
   parts-well (part f fs) (ofPart w ws) = (w, parts-well fs ws)
 
@@ -77,10 +73,10 @@ module _ (P : Problem) where
   unfolding levelCount
   falsity-well = let some : 0 < 32 = omega arith in ofTruth some
 
-  pub passed-well : (T : List Formula) → Every (Passed P) T → Live Well (initial T)
+  pub passed-well : (T : List Formula) → Each (Passed P) T → Live Well (initial T)
   passed-well T p =
       rw (formulas-numbered 1 T)
-      (every-weaken (Passed P) Well (λ f q. tests-wellFormed P f levelCount (q .named) (q .normal) (q .fits .1)) T p)
+      (each-weaken (Passed P) Well (λ f q. tests-wellFormed P f levelCount (q .named) (q .normal) (q .fits .1)) T p)
 
   pub steps-well : (s u : State) (ls : List RuleLine) → Steps P s ls u → Live Well s → Live Well u
   steps-well =
@@ -110,7 +106,7 @@ module _ (P : Problem) where
         short = length-ground P (valid .greatest) (λ p o. isOutput-small P valid p o .1) f e (wellFormed-tested w .isKnown);
       }
 
-  clauses-plain : Valid P → (fs : List Formula) → areClauses P fs ≡ true → Every Well fs → Every Plain fs
+  clauses-plain : Valid P → (fs : List Formula) → areClauses P fs ≡ true → Each Well fs → Each Plain fs
   clauses-plain valid [] e w = tt
   clauses-plain valid (f ∷ fs) e w = (clause-plain valid f (and-left _ _ e) (w .0), clauses-plain valid fs (and-right (isClause P f) _ e) (w .1))
 
@@ -120,16 +116,16 @@ module _ (P : Problem) where
 
   -- The limits.
 
-  plain-variables : (fs : List Formula) → Every Plain fs → theoryVariables fs ≡ []
+  plain-variables : (fs : List Formula) → Each Plain fs → theoryVariables fs ≡ []
   plain-variables [] p = refl
   plain-variables (f ∷ fs) p = ap₂ _++_ (p .0 .unbound) (plain-variables fs (p .1))
 
-  plain-guards : (fs : List Formula) → Every Plain fs → guardsFit fs ≡ true
+  plain-guards : (fs : List Formula) → Each Plain fs → guardsFit fs ≡ true
   unfolding guardQuantifierCount
   plain-guards [] p = refl
   plain-guards (f ∷ fs) p = ap₂ _&&_ (le-leb (guardQuantifiers f) 3 (omega (arith, p .0 .unguarded))) (plain-guards fs (p .1))
 
-  plain-limits : (fs : List Formula) → Every Plain fs → sizesFit fs ≡ true → limitsFit fs ≡ true
+  plain-limits : (fs : List Formula) → Each Plain fs → sizesFit fs ≡ true → limitsFit fs ≡ true
   unfolding variableCount
   plain-limits fs p e = rw (plain-variables fs p, plain-guards fs p, e)
 
@@ -138,22 +134,22 @@ module _ (P : Problem) where
       let t = wellFormed-tested w in
       record { fits = (p .wellSpelled, t .isShallow); named = ap₂ _&&_ (t .isKnown) (t .isClosed); normal = p .normal }
 
-  plain-fitting : (fs gs : List Formula) → Every Plain fs → Every Plain gs → Every Well gs → sizesFit (fs ++ gs) ≡ true → Fitting P fs gs
+  plain-fitting : (fs gs : List Formula) → Each Plain fs → Each Plain gs → Each Well gs → sizesFit (fs ++ gs) ≡ true → Fitting P fs gs
   plain-fitting fs [] p q w e = tt
   plain-fitting fs (g ∷ gs) p q w e =
-      let longer = every-snoc Plain fs g p (q .0) in
+      let longer = each-append Plain fs (g ∷ []) p (q .0, tt) in
       let whole : sizesFit ((fs ++ (g ∷ [])) ++ gs) ≡ true = rw (append-assoc fs (g ∷ []) gs) e in
       (plain-passed g (w .0) (q .0), plain-limits (fs ++ (g ∷ [])) longer (sizesFit-front (fs ++ (g ∷ [])) gs whole), plain-fitting (fs ++ (g ∷ [])) gs longer (q .1) (w .1) whole)
 
   -- The text.
 
-  plain-short : (fs : List Formula) → Every Plain fs → length (theoryText fs) ≤ 16 * sizeTotal fs
+  plain-short : (fs : List Formula) → Each Plain fs → length (theoryText fs) ≤ 16 * sizeTotal fs
   plain-short [] p = omega arith
   plain-short (f ∷ fs) p = rw (length-append (textOf f)) (omega (arith, p .0 .short, plain-short fs (p .1)))
 
-  pub text-short : (fs : List Formula) → Every Plain fs → sizesFit fs ≡ true → length (theoryText fs) ≤ textSize
+  pub text-short : (fs : List Formula) → Each Plain fs → sizesFit fs ≡ true → length (theoryText fs) ≤ textSize
   unfolding textSize theorySize
   text-short fs p e = omega (arith, plain-short fs p, leb-true (sizeTotal fs) 4096 (and-left _ _ e))
 
-  pub read-ground : (fs : List Formula) → Every Plain fs → Every Well fs → sizesFit fs ≡ true → theoryOf P (theoryText fs) ≡ done fs
+  pub read-ground : (fs : List Formula) → Each Plain fs → Each Well fs → sizesFit fs ≡ true → theoryOf P (theoryText fs) ≡ done fs
   read-ground fs p w e = read-theory P fs (plain-fitting [] fs tt p w e)

@@ -6,30 +6,31 @@ use mathlib.Core.List.{List, [], _∷_, _++_}
 use mathlib.Core.Bool.{Bool, true, false, _&&_, and-true, and-false}
 use Rattle.text.specs.Problem.{Problem}
 use Rattle.text.specs.Derivation.{Rule, RuleLine}
+use Rattle.text.proofs.Laws.{Each}
 use Rattle.formula.specs.Formula.{Formula, truth, connective, junction, all, Formulas, noParts, part}
 use Rattle.formula.specs.Meaning.{Structure, nowhere, holds, truths, joinAll, satisfies}
 use Rattle.formula.specs.Tables.{MakesAt}
 use Rattle.replay.specs.Theory.{entry, Theory, formulasOf, State, live, ended, liveTheory}
 use Rattle.replay.specs.Steps.{Named, Step, rewriting, removing, splitting, ending, Steps, stop, go}
-use Rattle.replay.proofs.Theory.{Every, EveryPart, every-append, every-front, every-back, every-named, satisfies-append, satisfies-around, satisfies-named}
+use Rattle.replay.proofs.Theory.{EachPart, each-append, each-front, each-back, each-named, satisfies-append, satisfies-around, satisfies-named}
 
 abbrev pub Live : (Formula → Type 0) → State → Type 0
-Live Q s = Every Q (formulasOf (liveTheory s))
+Live Q s = Each Q (formulasOf (liveTheory s))
 
 module _ (P : Problem) (Q : Formula → Type 0)
     (rules : (r : Rule) (path : List ℕ) (f h : Formula) → MakesAt P r path f h → Q f → Q h)
-    (parts : (fs : Formulas) → Q (connective (junction all) fs) → EveryPart Q fs)
+    (parts : (fs : Formulas) → Q (connective (junction all) fs) → EachPart Q fs)
     (falsity : Q (truth false)) where
   step-every : (s u : State) (l : RuleLine) → Step P s l u → Live Q s → Live Q u
   step-every s u l (rewriting r n path before after f h top a m e) q =
-      let rest = every-back Q before (entry n f ∷ after) q in
-      every-append Q before (entry n h ∷ after) (every-front Q before (entry n f ∷ after) q) (rules r path f h m (rest .0), rest .1)
+      let rest = each-back Q before (entry n f ∷ after) q in
+      each-append Q before (entry n h ∷ after) (each-front Q before (entry n f ∷ after) q) (rules r path f h m (rest .0), rest .1)
   step-every s u l (removing n before after top a e) q =
-      every-append Q before after (every-front Q before (entry n (truth true) ∷ after) q) (every-back Q before (entry n (truth true) ∷ after) q .1)
+      each-append Q before after (each-front Q before (entry n (truth true) ∷ after) q) (each-back Q before (entry n (truth true) ∷ after) q .1)
   step-every s u l (splitting n names before ts after f fs top a c w e) q =
       let old = entry n (connective (junction all) (part f fs)) ∷ after in
-      let rest = every-back Q before old q in
-      every-append Q before (ts ++ after) (every-front Q before old q) (every-append Q ts after (every-named Q names (part f fs) ts w (parts (part f fs) (rest .0))) (rest .1))
+      let rest = each-back Q before old q in
+      each-append Q before (ts ++ after) (each-front Q before old q) (each-append Q ts after (each-named Q names (part f fs) ts w (parts (part f fs) (rest .0))) (rest .1))
   step-every s u l (ending n before after top a) q = (falsity, tt)
 
   pub steps-every : (s u : State) (ls : List RuleLine) → Steps P s ls u → Live Q s → Live Q u
@@ -43,7 +44,7 @@ module _ (P : Problem) (Q : Formula → Type 0)
     unfolding holds
     step-sound s u l (rewriting r n path before after f h top a m e) q =
         satisfies-around S before (entry n f ∷ []) (entry n h ∷ []) after
-        (ap (λ (b : Bool). b && true) (sound r path f h m (every-back Q before (entry n f ∷ after) q .0)))
+        (ap (λ (b : Bool). b && true) (sound r path f h m (each-back Q before (entry n f ∷ after) q .0)))
     step-sound s u l (removing n before after top a e) q = satisfies-around S before (entry n (truth true) ∷ []) [] after refl
     step-sound s u l (splitting n names before ts after f fs top a c w e) q =
         satisfies-around S before (entry n (connective (junction all) (part f fs)) ∷ []) ts after

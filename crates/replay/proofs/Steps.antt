@@ -14,10 +14,10 @@ use Rattle.text.proofs.Laws.{and-left, and-right}
 use Rattle.text.proofs.Outcome.{Allowed, allowed-mapped, allowed-bind, allowed-weaken, allowed-provided}
 use Rattle.formula.specs.Formula.{Formula, truth, atom, equal, connective, quantifier, Formulas, noParts, part, Side, all, any, Connective, negation, implies, impliedBy, equivalent, junction}
 use Rattle.formula.specs.Limits.{sizesFit}
-use Rattle.formula.specs.Rules.{isTruth, apply, at, into, intoParts}
-use Rattle.formula.specs.Tables.{MakesAt}
+use Rattle.formula.specs.Rules.{isTruth, apply, at}
+use Rattle.formula.specs.Tables.{AtPath, MakesAt}
 use Rattle.formula.proofs.Rules.{onJunction-cases, isTruth-true}
-use Rattle.formula.proofs.Tables.{at-makes, makes-at}
+use Rattle.formula.proofs.Tables.{at-path, path-never, at-makes, makes-at}
 use Rattle.replay.specs.Theory.{Entry, entry, Theory, formulasOf, State, live, ended, liveTheory, greatestUsed, inPlace, unlessEnded, wholeOnly, removed, refuted, namedParts, splitParts, split, climbing, highest, within, stepped}
 use Rattle.replay.specs.Steps.{position, absent, Named, nobody, somebody, Step, rewriting, removing, splitting, ending}
 
@@ -75,23 +75,8 @@ place-in n k (b ∷ bs) after made f a e =
 abbrev Never : {A : Type 0} → (Formula → Outcome ℕ A) → Type 0
 Never k = (f : Formula) → Allowed (λ h. ⊥) (k f)
 
-parts-never : (k : Formula → Outcome ℕ Formula) → Never k → (fs : Formulas) (i : ℕ) → Allowed (λ hs. ⊥) (intoParts fs i k)
-parts-never k n noParts i = tt
-parts-never k n (part f fs) zero = allowed-mapped (λ h. ⊥) (λ hs. ⊥) (λ h. part h fs) (λ h q. q) (k f) (n f)
-parts-never k n (part f fs) (suc i) = allowed-mapped (λ h. ⊥) (λ hs. ⊥) (part f) (λ h q. q) (intoParts fs i k) (parts-never k n fs i)
-
-into-never : (k : Formula → Outcome ℕ Formula) → Never k → (i : ℕ) → Never (into i k)
-into-never k n i (truth b) = tt
-into-never k n i (atom p ts) = tt
-into-never k n i (equal s t) = tt
-into-never k n i (connective o fs) = allowed-mapped (λ h. ⊥) (λ h. ⊥) (connective o) (λ h q. q) (intoParts fs i k) (parts-never k n fs i)
-into-never k n zero (quantifier c x g f) = allowed-mapped (λ h. ⊥) (λ h. ⊥) (λ h. quantifier c x h f) (λ h q. q) (k g) (n g)
-into-never k n (suc zero) (quantifier c x g f) = allowed-mapped (λ h. ⊥) (λ h. ⊥) (λ h. quantifier c x g h) (λ h q. q) (k f) (n f)
-into-never k n (suc (suc i)) (quantifier c x g f) = tt
-
-at-never : (k : Formula → Outcome ℕ Formula) → Never k → (is : List ℕ) → Never (at is k)
-at-never k n [] = n
-at-never k n (i ∷ is) = into-never (at is k) (at-never k n is) i
+at-never : (k : Formula → Outcome ℕ Formula) → Never k → (path : List ℕ) → Never (at path k)
+at-never k n path f = allowed-weaken (AtPath (λ f h. ⊥) path f) (λ h. ⊥) (λ h q. path-never q) (at path k f) (at-path (λ f h. ⊥) k n path f)
 
 -- a rule that takes no path is done with none
 whole-only : {A : Type 0} (Q : Formula → A → Type 0) (k : Formula → Outcome ℕ A) → ((f : Formula) → Allowed (Q f) (k f))

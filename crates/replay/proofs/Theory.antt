@@ -4,36 +4,33 @@ use Prim.Native.Nat.{ℕ}
 use mathlib.Core.Path.{_≡_, refl, sym, ap, _∙_}
 use mathlib.Core.List.{List, [], _∷_, _++_}
 use mathlib.Core.Bool.{Bool, true, false, _&&_, and-assoc, and-false}
+use Rattle.text.proofs.Laws.{Each}
 use Rattle.formula.specs.Formula.{Formula, Formulas, noParts, part, all}
 use Rattle.formula.specs.Meaning.{Structure, nowhere, holds, truths, joinAll, satisfies}
 use Rattle.replay.specs.Theory.{Entry, entry, Theory, formulasOf}
 use Rattle.replay.specs.Steps.{Named, nobody, somebody}
 
--- each formula of a list; each part
-abbrev pub Every : (Formula → Type 0) → List Formula → Type 0
-Every Q [] = Unit {0}
-Every Q (f ∷ fs) = Q f × Every Q fs
-
-abbrev pub EveryPart : (Formula → Type 0) → Formulas → Type 0
-EveryPart Q noParts = Unit {0}
-EveryPart Q (part f fs) = Q f × EveryPart Q fs
+-- each part of a list of parts
+abbrev pub EachPart : (Formula → Type 0) → Formulas → Type 0
+EachPart Q noParts = Unit {0}
+EachPart Q (part f fs) = Q f × EachPart Q fs
 
 module _ (Q : Formula → Type 0) where
-  pub every-append : (t u : Theory) → Every Q (formulasOf t) → Every Q (formulasOf u) → Every Q (formulasOf (t ++ u))
-  every-append [] u p q = q
-  every-append (e ∷ es) u p q = (p .0, every-append es u (p .1) q)
+  pub each-append : (t u : Theory) → Each Q (formulasOf t) → Each Q (formulasOf u) → Each Q (formulasOf (t ++ u))
+  each-append [] u p q = q
+  each-append (e ∷ es) u p q = (p .0, each-append es u (p .1) q)
 
-  pub every-front : (t u : Theory) → Every Q (formulasOf (t ++ u)) → Every Q (formulasOf t)
-  every-front [] u p = tt
-  every-front (e ∷ es) u p = (p .0, every-front es u (p .1))
+  pub each-front : (t u : Theory) → Each Q (formulasOf (t ++ u)) → Each Q (formulasOf t)
+  each-front [] u p = tt
+  each-front (e ∷ es) u p = (p .0, each-front es u (p .1))
 
-  pub every-back : (t u : Theory) → Every Q (formulasOf (t ++ u)) → Every Q (formulasOf u)
-  every-back [] u p = p
-  every-back (e ∷ es) u p = every-back es u (p .1)
+  pub each-back : (t u : Theory) → Each Q (formulasOf (t ++ u)) → Each Q (formulasOf u)
+  each-back [] u p = p
+  each-back (e ∷ es) u p = each-back es u (p .1)
 
-  pub every-named : (ns : List ℕ) (fs : Formulas) (ts : Theory) → Named ns fs ts → EveryPart Q fs → Every Q (formulasOf ts)
-  every-named ns fs ts nobody p = tt
-  every-named ns fs ts (somebody n ms f hs us w) p = (p .0, every-named ms hs us w (p .1))
+  pub each-named : (ns : List ℕ) (fs : Formulas) (ts : Theory) → Named ns fs ts → EachPart Q fs → Each Q (formulasOf ts)
+  each-named ns fs ts nobody p = tt
+  each-named ns fs ts (somebody n ms f hs us w) p = (p .0, each-named ms hs us w (p .1))
 
 module _ (S : Structure) where
   pub satisfies-append : (t u : Theory) → satisfies S (formulasOf (t ++ u)) ≡ (satisfies S (formulasOf t) && satisfies S (formulasOf u))

@@ -12,7 +12,7 @@ use Rattle.text.specs.Bytes.{Bytes, bytes}
 use Rattle.text.specs.Outcome.{Outcome, done, refused}
 use Rattle.text.specs.Reading.{word}
 use Rattle.text.specs.Problem.{Problem}
-use Rattle.text.proofs.Laws.{and-left}
+use Rattle.text.proofs.Laws.{and-left, Each, each-append}
 use Rattle.text.proofs.Outcome.{Allowed, allowed-weaken}
 use Rattle.text.proofs.Reading.{Reads, reads-then, reads-give, reads-weaken, reads-word, reads-require, read-word}
 use Rattle.text.proofs.Lines.{readText-reads, Run, rest, run-more, RunsTo, readText-exactly}
@@ -24,7 +24,6 @@ use Rattle.formula.specs.Limits.{limitsFit, sizesFit}
 use Rattle.formula.proofs.Reading.{FitsIn, reads-formula, read-formula}
 use Rattle.replay.specs.Theory.{theoryLine, theoryOf}
 use Rattle.replay.specs.Replay.{theoryText}
-use Rattle.replay.proofs.Theory.{Every}
 
 -- the tests of a line but for the limits: 5 and 6, 7, 8
 pub record Passed (P : Problem) (f : Formula) : Type 0 where
@@ -33,16 +32,12 @@ pub record Passed (P : Problem) (f : Formula) : Type 0 where
   pub normal : isGNF P f ≡ true
 
 pub record ValidTheory (P : Problem) (T : List Formula) : Type 0 where
-  pub passed : Every (Passed P) T
+  pub passed : Each (Passed P) T
   pub sized : sizesFit T ≡ true
 
 theoryText-append : (fs gs : List Formula) → theoryText (fs ++ gs) ≡ theoryText fs ++ theoryText gs
 theoryText-append [] gs = refl
 theoryText-append (f ∷ fs) gs = rw (theoryText-append fs gs) (simp append-assoc)
-
-pub every-snoc : (Q : Formula → Type 0) (fs : List Formula) (f : Formula) → Every Q fs → Q f → Every Q (fs ++ (f ∷ []))
-every-snoc Q [] f p q = (q, tt)
-every-snoc Q (g ∷ fs) f p q = (p .0, every-snoc Q fs f (p .1) q)
 
 -- one formula more, that passed all tests of its line
 record Grown (P : Problem) (fs gs : List Formula) : Type 0 where
@@ -70,7 +65,7 @@ module _ (P : Problem) where
 
   grown-valid : (fs gs : List Formula) → ValidTheory P fs → Grown P fs gs → ValidTheory P gs
   grown-valid fs gs v g = record {
-    passed = rw (g .is) (every-snoc (Passed P) fs (g .formula) (v .passed) (g .passed));
+    passed = rw (g .is) (each-append (Passed P) fs (g .formula ∷ []) (v .passed) (g .passed, tt));
     sized = and-left (sizesFit gs) _ (g .limits);
   }
 

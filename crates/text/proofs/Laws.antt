@@ -1,8 +1,8 @@
--- Laws of truth values and of equal bytes that the kit lacks.
+-- Laws of truth values, of equal bytes and of what holds of each of a list, that the kit lacks.
 -- Assumes nothing.
 use Prim.Native.Nat.{ℕ}
 use mathlib.Core.Path.{_≡_, refl, sym, ap₂}
-use mathlib.Core.List.{[], _∷_}
+use mathlib.Core.List.{List, [], _∷_, _++_}
 use mathlib.Core.Bool.{Bool, true, false, _&&_, _||_, false≢true}
 use lib.Dec.{eqb}
 use borrow.Author.Tests.{eqb-true, eq-eqb}
@@ -34,3 +34,16 @@ same-true [] (b ∷ t) e = absurd (false≢true e)
 same-true (a ∷ s) [] e = absurd (false≢true e)
 same-true (a ∷ s) (b ∷ t) e =
     ap₂ (λ (k : ℕ) (ks : Bytes). k ∷ ks) (eqb-true a b (and-left (eqb a b) (same s t) e)) (same-true s t (and-right (eqb a b) (same s t) e))
+
+-- each of a list
+abbrev pub Each : {A : Type 0} → (A → Type 0) → List A → Type 0
+Each Q [] = Unit {0}
+Each Q (a ∷ rest) = Q a × Each Q rest
+
+pub each-weaken : {A : Type 0} (Q W : A → Type 0) → ((a : A) → Q a → W a) → (items : List A) → Each Q items → Each W items
+each-weaken Q W h [] q = tt
+each-weaken Q W h (a ∷ rest) q = (h a (q .0), each-weaken Q W h rest (q .1))
+
+pub each-append : {A : Type 0} (Q : A → Type 0) (before after : List A) → Each Q before → Each Q after → Each Q (before ++ after)
+each-append Q [] after p q = q
+each-append Q (a ∷ before) after p q = (p .0, each-append Q before after (p .1) q)

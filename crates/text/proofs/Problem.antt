@@ -15,9 +15,8 @@ use Rattle.text.specs.Bytes.{same}
 use Rattle.text.specs.Outcome.{done, provided}
 use Rattle.text.specs.Problem.{Name, Row, Predicate, Input, Problem, inputPredicates, predicates, named, isInput, isOutput, isName, Relation, truthValue, tuples}
 use Rattle.text.specs.Problem.{domainFits, predicateFits, rowsFit, ascending, tupleTotal, tuplesFit, rowsFor, withInput, withOutput}
-use Rattle.text.proofs.Laws.{and-left, and-right, same-true}
+use Rattle.text.proofs.Laws.{and-left, and-right, same-true, Each}
 use Rattle.text.proofs.Outcome.{Allowed, allowed-mapped, allowed-done, allowed-provided}
-use Rattle.text.proofs.Reading.{Each}
 
 -- how many predicates have a name
 abbrev pub occurrences : List Predicate → Name → ℕ

@@ -14,15 +14,11 @@ use Rattle.text.specs.Bytes.{Bytes, next, every, isDigit, begins, span, 
 use Rattle.text.specs.Numbers.{isNumber, decimal}
 use Rattle.text.specs.Outcome.{done, provided}
 use Rattle.text.specs.Reading.{Reader, give, refuse, require, _>>=_, word, run, token, readNumber, _⇒_, oneOf, further, separated}
-use Rattle.text.proofs.Laws.{and-left, and-right}
+use Rattle.text.proofs.Laws.{and-left, and-right, Each}
 use Rattle.text.proofs.Numbers.{value-decimal, decimal-value, isNumber-decimal, every-decimal}
 use Rattle.text.proofs.Outcome.{Allowed, allowed-bind, allowed-mapped, allowed-weaken, allowed-provided}
 
--- each of a list; and there is one at least
-abbrev pub Each : {A : Type 0} → (A → Type 0) → List A → Type 0
-Each P [] = Unit {0}
-Each P (a ∷ rest) = P a × Each P rest
-
+-- each of a list, and there is one at least
 abbrev pub OneOrMore : {A : Type 0} → (A → Type 0) → List A → Type 0
 OneOrMore P [] = ⊥
 OneOrMore P (a ∷ rest) = Each P (a ∷ rest)
@@ -30,10 +26,6 @@ OneOrMore P (a ∷ rest) = Each P (a ∷ rest)
 pub each-some : {A : Type 0} (P : A → Type 0) (items : List A) → OneOrMore P items → Each P items
 each-some P [] some = absurd some
 each-some P (a ∷ items) some = some
-
-pub each-weaken : {A : Type 0} (P Q : A → Type 0) → ((a : A) → P a → Q a) → (items : List A) → Each P items → Each Q items
-each-weaken P Q h [] each = tt
-each-weaken P Q h (a ∷ items) each = (h a (each .0), each-weaken P Q h items (each .1))
 
 -- What a reader reads has that text.
 
