@@ -14,16 +14,17 @@ use Rattle.text.specs.Sizes.{textSize, workSize}
 use Rattle.text.specs.Bytes.{Bytes, bytes, same}
 use Rattle.text.specs.Outcome.{Outcome, done, refused, _>>=_}
 use Rattle.text.specs.Problem.{Problem, problemOf, isInput}
-use Rattle.text.proofs.Laws.{same-refl}
+use Rattle.text.proofs.Laws.{same-refl, Each}
 use Rattle.text.proofs.Outcome.{Allowed, allowed-weaken, allowed-done}
 use Rattle.formula.specs.Formula.{Formula, truth}
+use Rattle.formula.specs.Normal.{mentionsOnly}
 use Rattle.formula.specs.Meaning.{Structure, Extends, satisfies}
 use Rattle.replay.specs.Theory.{theoryOf, ended}
 use Rattle.replay.specs.Replay.{Ground, groundText, groundOf, derivationOf}
 use Rattle.replay.specs.Answer.{grounded, replayed, checked, Result, workAfter, replayResult, checkResult}
 use Rattle.replay.specs.Accepted.{Grounds, finalFormulas, finalText, Fits, Equivalent}
 use Rattle.replay.proofs.Refusals.{replayed-accepts, checked-accepts}
-use Rattle.replay.proofs.Accepted.{groundBy, GroundedBy, derivation-says, derivation-grounds, Judges, grounded-judges, replayed-judges, checked-judges, final-short, final-read, final-same, final-unsat}
+use Rattle.replay.proofs.Accepted.{groundBy, GroundedBy, derivation-says, derivation-grounds, Judges, grounded-judges, replayed-judges, checked-judges, final-short, final-read, final-same, final-unsat, final-outputs}
 
 -- Under the limits a ground text has at most 65,536 bytes.
 pub ground-short : (problem theory derivation : Bytes) → Allowed (λ G. length (groundText G) ≤ textSize) (grounded problem theory derivation)
@@ -73,6 +74,10 @@ module _ (problem theory derivation claim : Bytes) (output work : List ℕ) wher
     pub demand-three-unsat : (g : Grounds P T derivation) (n used : ℕ) → g .last ≡ ended n used
         → (finalFormulas g ≡ truth false ∷ []) × ((S : Structure) → Extends P S → satisfies S T ≡ false)
     demand-three-unsat = final-unsat problem theory derivation P T readProblem readTheory
+
+    -- No final formula mentions an input predicate.
+    pub demand-three-outputs : (g : Grounds P T derivation) → Each (λ f. mentionsOnly (λ p. not (isInput P p)) f ≡ true) (finalFormulas g)
+    demand-three-outputs = final-outputs problem theory derivation P T readProblem readTheory
 
     -- Texts within their sizes and buffers long enough.
     module _ (fits : Fits problem theory derivation claim output work) where

@@ -4,18 +4,19 @@ use Prim.Native.Nat.{ℕ, suc, zero, _+_, _≤_, _<_}
 use native.Mathlib.Omega.{arith}
 use native.Mathlib.Nat.{zero-add}
 use mathlib.Core.Path.{_≡_, refl, sym}
-use mathlib.Core.List.{List, [], _∷_, _++_, append-nil, append-assoc, map-append}
-use mathlib.Core.Bool.{Bool, true, false, cond, not, _&&_, _||_, false≢true}
+use mathlib.Core.List.{List, [], _∷_, _++_, append-nil, append-assoc, map-append, List·Memᴰ, List·Memᴰ·head, List·Memᴰ·tail}
+use mathlib.Core.Bool.{Bool, true, false, cond, not, _&&_, _||_, false≢true, or-true}
+use mathlib.Core.Logic.{_↔_}
 use lib.Dec.{leb, ltb, eqb·suc-zero}
 use lib.ListN.{length, length-append}
 use lib.Seq.{append-snoc}
 use borrow.Author.Tests.{leb-true, leb-false, le-leb, lt-leb, ltb-true, not-true}
 use Rattle.text.specs.Sizes.{domainSize, predicateCount, greatestArity, nameSize, tupleCount}
-use Rattle.text.specs.Bytes.{same}
+use Rattle.text.specs.Bytes.{same, member}
 use Rattle.text.specs.Outcome.{done, provided}
 use Rattle.text.specs.Problem.{Name, Row, Predicate, Input, Problem, inputPredicates, predicates, named, isInput, isOutput, isName, Relation, truthValue, tuples}
-use Rattle.text.specs.Problem.{domainFits, predicateFits, rowsFit, ascending, tupleTotal, tuplesFit, rowsFor, withInput, withOutput}
-use Rattle.text.proofs.Laws.{and-left, and-right, same-true, Each}
+use Rattle.text.specs.Problem.{given, rowsOf, domainFits, predicateFits, rowsFit, ascending, tupleTotal, tuplesFit, rowsFor, withInput, withOutput}
+use Rattle.text.proofs.Laws.{and-left, and-right, same-refl, same-true, Each}
 use Rattle.text.proofs.Outcome.{Allowed, allowed-mapped, allowed-done, allowed-provided}
 
 -- how many predicates have a name
@@ -183,3 +184,21 @@ module _ (P : Problem) (valid : Valid P) (p : Name) where
   isInput-not-isOutput e =
       rw named-occurrences (lt-leb 1 (occurrences (P .outputs) p)
       (omega (arith, rw occurrences-append at (valid .declares .once p), named-occurs (inputPredicates P) p e)))
+
+-- The input structure.
+
+member-listed : (row : Row) (rows : List Row) → member row rows ≡ true → List·Memᴰ row rows
+member-listed row [] e = absurd (false≢true e)
+member-listed row (other ∷ rows) e = pick (same row other) refl e (member-listed row rows)
+  where
+    pick : (b : Bool) → same row other ≡ b → (b || member row rows) ≡ true → (member row rows ≡ true → List·Memᴰ row rows) → List·Memᴰ row (other ∷ rows)
+    pick true q h ih = List·Memᴰ·head (same-true row other q)
+    pick false q h ih = List·Memᴰ·tail (ih h)
+
+listed-member : {row : Row} {rows : List Row} → List·Memᴰ row rows → member row rows ≡ true
+listed-member {row} (List·Memᴰ·head e) = rw (← e, same-refl row)
+listed-member {row} (List·Memᴰ·tail {x = other} m) = rw (listed-member m) (or-true (same row other))
+
+-- an input predicate holds for its rows and for nothing else
+pub given-rows : (P : Problem) (p : Name) (row : Row) → (given P p row ≡ true) ↔ List·Memᴰ row (rowsOf (P .inputs) p)
+given-rows P p row = (member-listed row (rowsOf (P .inputs) p), listed-member)
