@@ -1,10 +1,14 @@
--- Laws of truth values, of equal bytes and of what holds of each of a list, that the kit lacks.
+-- Laws of truth values, of equal bytes, of runs of stores and of what holds of each of a list, that the kit lacks.
 -- Assumes nothing.
-use Prim.Native.Nat.{ℕ}
-use mathlib.Core.Path.{_≡_, refl, sym, ap₂}
+use Prim.Native.Nat.{ℕ, suc, _+_}
+use native.Mathlib.Nat.{add-zero}
+use native.Mathlib.Omega.{arith}
+use mathlib.Core.Path.{_≡_, refl, sym, ap₂, _∙_}
 use mathlib.Core.List.{List, [], _∷_, _++_}
 use mathlib.Core.Bool.{Bool, true, false, _&&_, _||_, false≢true}
 use lib.Dec.{eqb}
+use lib.ListN.{length, set}
+use lib.Seq.{sets}
 use borrow.Author.Tests.{eqb-true, eq-eqb}
 use Rattle.text.specs.Bytes.{Bytes, same}
 
@@ -47,3 +51,10 @@ each-weaken Q W h (a ∷ rest) q = (h a (q .0), each-weaken Q W h rest (q .1))
 pub each-append : {A : Type 0} (Q : A → Type 0) (before after : List A) → Each Q before → Each Q after → Each Q (before ++ after)
 each-append Q [] after p q = q
 each-append Q (a ∷ before) after p q = (p .0, each-append Q before after (p .1) q)
+
+-- a run of stores, and another behind it
+pub sets-append : {A : Type 0} (l : List A) (i : ℕ) (vs ws : List A) → sets l i (vs ++ ws) ≡ sets (sets l i vs) (i + length vs) ws
+sets-append l i [] ws = rw (add-zero i)
+sets-append l i (v ∷ vs) ws =
+    let e : suc i + length vs ≡ i + suc (length vs) = omega arith in
+    sets-append (set l i v) (suc i) vs ws ∙ rw e

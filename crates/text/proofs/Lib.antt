@@ -9,3 +9,4 @@ pub mod Problem
 pub mod ProblemText
 pub mod Derivation
 pub mod Refusals
+pub mod NumberPlaces

@@ -85,7 +85,7 @@ reads-word number w =
 
 module _ (class : ℕ → Bool) where
   -- a text is its longest run of a class and the rest
-  span-split : (s : Bytes) → (every class (span class s) ≡ true) × (s ≡ span class s ++ drop (length (span class s)) s)
+  pub span-split : (s : Bytes) → (every class (span class s) ≡ true) × (s ≡ span class s ++ drop (length (span class s)) s)
   unfolding span
   span-split [] = (refl, refl)
   span-split (b ∷ s) = pick (class b) refl (span-split s)

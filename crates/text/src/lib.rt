@@ -1,3 +1,4 @@
 // What stands in the texts: bytes, numbers, lines, the problem and derivation lines.
 pub mod byte;
 pub mod line;
+pub mod number;

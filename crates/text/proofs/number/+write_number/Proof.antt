@@ -1,0 +1,99 @@
+-- `number::write_number` writes the digits of a tenth of the number, and then the last. The measure is the number.
+-- Assumes nothing.
+use borrow.Author.Needs.{needs}
+use native.Mathlib.Omega.{arith}
+use Prim.Native.Nat.{_/_}
+use mathlib.Core.Path.{_≡_, _∙_}
+use Rattle.text.proofs.NumberPlaces.{length-decimal, length-one, length-more, write-one, write-more}
+use Prim.Native.Nat.{ℕ, _<_}
+use borrow.Fn.Kinds.{In}
+use borrow.Fn.PlainCycle.{Measures, is, falls, and}
+use Rattle.text.proofs.number.write_number.Reads as write-number
+use Rattle.text.proofs.number.write_number.Kinds as write-number-kinds
+use Rattle.text.proofs.number.+write_number.Lts-write_number as write-number-lts
+use Rattle.text.proofs.number.put.Reads as put-reads
+use Rattle.text.proofs.number.+write_number.{statement}
+use Rattle.text.proofs.number.+write_number.Tie.{close}
+
+abbrev μ-write-number : Measures 1 write-number-kinds.ps ℕ
+μ-write-number κs a = a .0
+
+abbrev write-number-at : ℕ → In 1 write-number-kinds.ps
+write-number-at t =
+    and 1 write-number-kinds.ps (is 1 write-number-kinds.ps μ-write-number t) write-number.Pre
+
+abbrev write-number-below : ℕ → In 1 write-number-kinds.ps
+write-number-below t =
+    and
+    1
+    write-number-kinds.ps
+    (falls 1 write-number-kinds.ps _<_ μ-write-number t)
+    write-number.Pre
+
+-- what write-number is told of what it calls, at the measure t
+abbrev write-number-calls : ℕ → write-number-lts.Claims
+write-number-calls t = (put-reads.Asked, put-reads.Learnt, write-number-below t, write-number.Post)
+
+write-number-cast-put : (t : ℕ) → write-number-lts.Need-cast-put (write-number-calls t) (write-number-at t) write-number.Post
+write-number-cast-put t c = search needs
+
+write-number-add-put : (t : ℕ) → write-number-lts.Need-add-put (write-number-calls t) (write-number-at t) write-number.Post
+write-number-add-put t c = search needs
+
+write-number-put-requires : (t : ℕ) → write-number-lts.Need-put-requires (write-number-calls t) (write-number-at t) write-number.Post
+write-number-put-requires t c κs = search needs
+
+write-number-add-result : (t : ℕ) → write-number-lts.Need-add-result (write-number-calls t) (write-number-at t) write-number.Post
+write-number-add-result t c = search needs
+
+write-number-same-length : (t : ℕ) → write-number-lts.Need-same-length (write-number-calls t) (write-number-at t) write-number.Post
+write-number-same-length t c = search needs
+
+write-number-returns : (t : ℕ) → write-number-lts.Need-returns (write-number-calls t) (write-number-at t) write-number.Post
+write-number-returns t c =
+    let a = c .before .before .before .before .before .before .args in
+    (c .before .before .put .ensures ∙ write-one (a .n) (c .before .before .before .before .if1 .taken) (a .out .now) (a .at), length-one (a .n) (c .before .before .before .before .if1 .taken) (a .at))
+
+write-number-write-number-requires : (t : ℕ) → write-number-lts.Need-write-number-requires (write-number-calls t) (write-number-at t) write-number.Post
+write-number-write-number-requires t c κs = search needs
+
+write-number-cast-put-2 : (t : ℕ) → write-number-lts.Need-cast-put-2 (write-number-calls t) (write-number-at t) write-number.Post
+write-number-cast-put-2 t c = search needs
+
+write-number-add-put-2 : (t : ℕ) → write-number-lts.Need-add-put-2 (write-number-calls t) (write-number-at t) write-number.Post
+write-number-add-put-2 t c = search needs
+
+write-number-put-requires-2 : (t : ℕ) → write-number-lts.Need-put-requires-2 (write-number-calls t) (write-number-at t) write-number.Post
+write-number-put-requires-2 t c κs = search needs
+
+write-number-add-result-2 : (t : ℕ) → write-number-lts.Need-add-result-2 (write-number-calls t) (write-number-at t) write-number.Post
+write-number-add-result-2 t c =
+    let a = c .before .before .before .before .before .before .before .before .before .before .args in
+    omega (arith, c .before .before .before .before .before .before .write-number .ensures .1, length-decimal (a .n / 10))
+
+write-number-same-length-2 : (t : ℕ) → write-number-lts.Need-same-length-2 (write-number-calls t) (write-number-at t) write-number.Post
+write-number-same-length-2 t c = search needs
+
+write-number-returns-2 : (t : ℕ) → write-number-lts.Need-returns-2 (write-number-calls t) (write-number-at t) write-number.Post
+write-number-returns-2 t c =
+    let a = c .before .before .before .before .before .before .before .before .before .before .args in
+    let e = c .before .before .before .before .before .before .write-number .ensures in
+    (rw (e .0, e .1) at (c .before .before .put2 .ensures) ∙ write-more (a .n) (c .before .before .before .before .before .before .before .before .if1 .left) (a .out .now) (a .at), rw (e .1) (length-more (a .n) (c .before .before .before .before .before .before .before .before .if1 .left) (a .at)))
+
+pub +write-number-spec : {M : Type 1} → statement M
++write-number-spec = close μ-write-number λ t. write-number-lts.spec (write-number-calls t)
+    (write-number-at t)
+    write-number.Post
+    (write-number-cast-put t)
+    (write-number-add-put t)
+    (write-number-put-requires t)
+    (write-number-add-result t)
+    (write-number-same-length t)
+    (write-number-returns t)
+    (write-number-write-number-requires t)
+    (write-number-cast-put-2 t)
+    (write-number-add-put-2 t)
+    (write-number-put-requires-2 t)
+    (write-number-add-result-2 t)
+    (write-number-same-length-2 t)
+    (write-number-returns-2 t)

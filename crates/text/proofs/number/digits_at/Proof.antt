@@ -1,0 +1,70 @@
+-- `number::digits_at` passes digits one by one. The invariant: what is read from here on behind the value so far is the number.
+-- Assumes nothing.
+use borrow.Author.Needs.{needs}
+use mathlib.Core.Path.{_≡_, sym, _∙_}
+use native.Mathlib.Omega.{arith}
+use Prim.Native.Nat.{_-_}
+use lib.ListN.{length}
+use borrow.Author.Tests.{not-true, not-false}
+use Rattle.text.specs.Bytes.{isDigit}
+use Rattle.text.proofs.Places.{span-stop, span-beyond}
+use Rattle.text.proofs.NumberPlaces.{DigitsPassed, digits-first, digits-on, digits-stop}
+use Rattle.text.proofs.number.digits_at.Statement.{statement}
+use Rattle.text.proofs.number.digits_at.Tie as tie
+
+abbrev Inv-loop : tie.InvT-loop
+Inv-loop text at value₀ i₀ value i = DigitsPassed text at value i
+
+abbrev μ-loop : tie.MeasureT-loop
+μ-loop text at value₀ i₀ value i = length text - i
+
+loop-holds : tie.Need-loop-holds Inv-loop μ-loop
+loop-holds c = digits-first (c .before .args .text .now) (c .before .args .at)
+
+shared-slice-read-b : tie.Need-shared-slice-read-b Inv-loop μ-loop
+shared-slice-read-b c = search needs
+
+is-digit-requires : tie.Need-is-digit-requires Inv-loop μ-loop
+is-digit-requires c κs = search needs
+
+returns : tie.Need-returns Inv-loop μ-loop
+returns c =
+    let text = c .before .before .before .before .before .before .args .text .now in
+    digits-stop text (c .before .before .before .before .before .before .args .at) _ _ (c .before .before .before .before .loop .inv)
+    (span-stop text (c .before .before .before .before .loop .i) (c .before .before .before .loop-test .taken) isDigit (sym (c .before .is-digit .ensures) ∙ not-true _ (c .if1 .taken)))
+
+with-digit-requires : tie.Need-with-digit-requires Inv-loop μ-loop
+with-digit-requires c κs = (c .before .before .before .before .loop .inv .small, sym (c .before .is-digit .ensures) ∙ not-false _ (c .if1 .left))
+
+add-i : tie.Need-add-i Inv-loop μ-loop
+add-i c = search needs
+
+loop-less : tie.Need-loop-less Inv-loop μ-loop
+loop-less c = search needs
+
+loop-again : tie.Need-loop-again Inv-loop μ-loop
+loop-again c =
+    rw (c .with-digit .ensures)
+    (digits-on (c .before .before .before .before .before .before .before .args .text .now) (c .before .before .before .before .before .before .before .args .at) (c .before .before .before .before .before .loop .value) (c .before .before .before .before .before .loop .i) (c .before .before .before .before .before .loop .inv) (c .before .before .before .before .loop-test .taken)
+    (sym (c .before .before .is-digit .ensures) ∙ not-false _ (c .before .if1 .left)))
+
+returns-2 : tie.Need-returns-2 Inv-loop μ-loop
+returns-2 c =
+    let text = c .before .before .before .args .text .now in
+    digits-stop text (c .before .before .before .args .at) _ _ (c .before .loop .inv) (span-beyond text (c .before .loop .i) isDigit (c .loop-test .left))
+
+pub digits-at-spec : {M : Type 1} → statement M
+digits-at-spec =
+    tie.close
+    (tie.spec
+    Inv-loop
+    μ-loop
+    loop-holds
+    shared-slice-read-b
+    is-digit-requires
+    returns
+    with-digit-requires
+    add-i
+    loop-less
+    loop-again
+    returns-2)

@@ -1,0 +1,33 @@
+-- `number::number_at` takes the run of digits, sees that it is well spelled, and tells its value by the cap.
+-- Assumes nothing.
+use borrow.Author.Needs.{needs}
+use mathlib.Core.Path.{_≡_, sym, _∙_}
+use borrow.Author.Tests.{not-true, not-false}
+use Rattle.text.proofs.NumberPlaces.{number-misspelled, number-small, number-large}
+use Rattle.text.proofs.number.number_at.Statement.{statement}
+use Rattle.text.proofs.number.number_at.Tie as tie
+
+digits-at-requires : tie.Need-digits-at-requires
+digits-at-requires c κs = search needs
+
+well-spelled-requires : tie.Need-well-spelled-requires
+well-spelled-requires c κs = search needs
+
+returns : tie.Need-returns
+returns c =
+    let a = c .before .before .before .before .args in
+    number-misspelled (a .text .now) (a .at) (c .before .before .digits-at .result) (c .before .before .digits-at .ensures) (c .before .before .before .before .pre) (sym (c .before .well-spelled .ensures) ∙ not-true _ (c .if1 .taken))
+
+returns-2 : tie.Need-returns-2
+returns-2 c =
+    let a = c .before .before .before .before .before .args in
+    number-small (a .text .now) (a .at) (c .before .before .before .digits-at .result) (c .before .before .before .digits-at .ensures) (c .before .before .before .before .before .pre) (sym (c .before .before .well-spelled .ensures) ∙ not-false _ (c .before .if1 .left)) (c .if2 .taken)
+
+returns-3 : tie.Need-returns-3
+returns-3 c =
+    let a = c .before .before .before .before .before .args in
+    number-large (a .text .now) (a .at) (c .before .before .before .digits-at .result) (c .before .before .before .digits-at .ensures) (c .before .before .before .before .before .pre) (sym (c .before .before .well-spelled .ensures) ∙ not-false _ (c .before .if1 .left)) (c .if2 .left)
+
+pub number-at-spec : {M : Type 1} → statement M
+number-at-spec =
+    tie.close (tie.spec digits-at-requires well-spelled-requires returns returns-2 returns-3)
