@@ -146,6 +146,7 @@ module _ (text : Bytes) (at : ℕ) where
       number-found =
           record {
             is = λ refusal. rw (told .next) (readNumber-spelled refusal spelled);
+            ends = told .next;
             after = omega (arith, some, told .next);
             within = omega (arith, told .within);
           }
@@ -154,7 +155,7 @@ module _ (text : Bytes) (at : ℕ) where
       unfolding numberAt
       number-small h =
           let e : d .value ≡ value (digitsAt text at) = omega (arith, told .value) in
-          record { found = rw e number-found; small = h }
+          record { found = rw e number-found; stands = told .value; small = h }
 
       pub number-large : beyond ≤ d .value → ToldNumber text at (Beyond (d .next))
       unfolding numberAt
@@ -176,6 +177,6 @@ module _ (n : ℕ) (large : 10 ≤ n) where
   pub length-more : (at : ℕ) → at + length (decimal (n / 10)) + 1 ≡ at + length (decimal n)
   length-more at = rw (decimal-more n large, length-append (decimal (n / 10))) (omega arith)
 
-  pub write-more : (out : Bytes) (at : ℕ)
-      → set (sets out at (decimal (n / 10))) (at + length (decimal (n / 10))) (48 + n % 10) ≡ sets out at (decimal n)
-  write-more out at = rw (decimal-more n large, sets-append out at (decimal (n / 10)) ((48 + n % 10) ∷ []))
+  pub write-more : (out : Bytes) (at : ℕ) {front new : Bytes} {last : ℕ} → front ≡ sets out at (decimal (n / 10)) → last ≡ at + length (decimal (n / 10))
+      → new ≡ set front last (48 + n % 10) → new ≡ sets out at (decimal n)
+  write-more out at {front} {new} {last} e f g = g ∙ rw (e, f, decimal-more n large, sets-append out at (decimal (n / 10)) ((48 + n % 10) ∷ []))

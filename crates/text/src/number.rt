@@ -10,10 +10,12 @@ ghost use Rattle.text.specs.Bytes.{isDigit};
 ghost use Rattle.text.specs.Numbers.{isNumber, decimal};
 ghost use Rattle.text.specs.memory.Numbers.{beyond, digitsAt, numberEnd, DigitsTold, ToldNumber};
 
+// Larger than every number that is asked for: numbers from here on are not told apart.
+const BEYOND: u32 = 1000000;
+
 // What stands at a place where a number is asked.
 pub enum Number {
     Value { next: usize, value: u32 },
-    // A number that is larger than any that is asked for.
     Beyond { next: usize },
     Malformed,
 }
@@ -30,9 +32,10 @@ fn with_digit(value: u32, digit: u8) -> u32
     ensures { λ r. ⌜ r ≡ min (value * 10 + (digit - 48)) beyond ⌝ }
 {
     let more = value * 10 + (digit - b'0') as u32;
-    if more < 1000000 { more } else { 1000000 }
+    if more < BEYOND { more } else { BEYOND }
 }
 
+// The digits at a place: none, where no digit stands there.
 pub fn digits_at(text: &[u8], at: usize) -> Digits
     ensures { λ r. ⌜ DigitsTold (now (text .entry)) at r ⌝ }
 {
@@ -63,6 +66,7 @@ fn well_spelled(text: &[u8], at: usize, next: usize) -> bool
     peek(text, at) != b'0'
 }
 
+// The number at a place.
 pub fn number_at(text: &[u8], at: usize) -> Number
     requires { ⌜ at ≤ length (now text) ⌝ }
     ensures { λ r. ⌜ ToldNumber (now (text .entry)) at r ⌝ }
@@ -73,7 +77,7 @@ pub fn number_at(text: &[u8], at: usize) -> Number
     if !well_spelled(text, at, next) {
         return Number::Malformed;
     }
-    if value < 1000000 {
+    if value < BEYOND {
         return Number::Value { next, value };
     }
     Number::Beyond { next }

@@ -35,14 +35,16 @@ pub record DigitsTold (text : Bytes) (at : ℕ) (r : Digits) : Type 0 where
   pub next : r .next ≡ numberEnd text at
   pub within : r .next ≤ max at (length text)
 
--- a number is read at a place, whatever would be refused with
+-- a number is read at a place: its digits, whatever would be refused with
 pub record NumberFound (text : Bytes) (at number next : ℕ) : Type 0 where
   pub is : (refusal : ℕ) → readNumber refusal (drop at text) ≡ done (number, drop next text)
+  pub ends : next ≡ numberEnd text at
   pub after : at < next
   pub within : next ≤ length text
 
 pub record SmallFound (text : Bytes) (at number next : ℕ) : Type 0 where
   pub found : NumberFound text at number next
+  pub stands : number ≡ numberAt text at
   pub small : number < beyond
 
 pub record LargeFound (text : Bytes) (at next : ℕ) : Type 0 where

@@ -78,7 +78,7 @@ write-number-returns-2 : (t : ℕ) → write-number-lts.Need-returns-2 (write-nu
 write-number-returns-2 t c =
     let a = c .before .before .before .before .before .before .before .before .before .before .args in
     let e = c .before .before .before .before .before .before .write-number .ensures in
-    (rw (e .0, e .1) at (c .before .before .put2 .ensures) ∙ write-more (a .n) (c .before .before .before .before .before .before .before .before .if1 .left) (a .out .now) (a .at), rw (e .1) (length-more (a .n) (c .before .before .before .before .before .before .before .before .if1 .left) (a .at)))
+    (write-more (a .n) (c .before .before .before .before .before .before .before .before .if1 .left) (a .out .now) (a .at) (e .0) (e .1) (c .before .before .put2 .ensures), rw (e .1) (length-more (a .n) (c .before .before .before .before .before .before .before .before .if1 .left) (a .at)))
 
 pub +write-number-spec : {M : Type 1} → statement M
 +write-number-spec = close μ-write-number λ t. write-number-lts.spec (write-number-calls t)
