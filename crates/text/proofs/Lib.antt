@@ -10,3 +10,5 @@ pub mod ProblemText
 pub mod Derivation
 pub mod Refusals
 pub mod NumberPlaces
+pub mod Parts
+pub mod Tables

@@ -1,2 +1,3 @@
 pub mod Classes
 pub mod Numbers
+pub mod Table

@@ -2,3 +2,5 @@
 pub mod byte;
 pub mod line;
 pub mod number;
+pub mod name;
+pub mod table;

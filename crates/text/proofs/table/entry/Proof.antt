@@ -1,0 +1,31 @@
+-- `table::entry` reads a column; past its end there is nothing.
+-- Assumes nothing.
+use borrow.Author.Needs.{needs}
+use native.Mathlib.Omega.{arith}
+use Prim.Native.Nat.{_≤_}
+use mathlib.Core.Path.{_≡_, sym}
+use lib.ListN.{length, List·getD-eq-default}
+use Rattle.text.proofs.table.entry.Statement.{statement}
+use Rattle.text.proofs.table.entry.Tie as tie
+
+mul-result : tie.Need-mul-result
+mul-result c = search needs
+
+array-read-result : tie.Need-array-read-result
+array-read-result c = search needs
+
+cast-result : tie.Need-cast-result
+cast-result c = search needs
+
+returns : tie.Need-returns
+returns c = search needs
+
+returns-2 : tie.Need-returns-2
+returns-2 c =
+    let a = c .before .args in
+    let n : length (a .t1) ≡ 32 = search needs in
+    let h : length (a .t1) ≤ a .i = omega arith in
+    sym (List·getD-eq-default (a .t1) 0 h)
+
+pub entry-spec : {M : Type 1} → statement M
+entry-spec = tie.close (tie.spec mul-result array-read-result cast-result returns returns-2)

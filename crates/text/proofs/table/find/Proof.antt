@@ -1,0 +1,75 @@
+-- `table::find` looks at one predicate after another. The invariant: the place among all is the place among those that are left, behind those passed.
+-- Assumes nothing.
+use borrow.Author.Needs.{needs}
+use native.Mathlib.Omega.{arith}
+use native.Mathlib.Nat.{add-zero}
+use Prim.Native.Nat.{ℕ, _+_, _-_, _≤_}
+use mathlib.Core.Path.{_≡_, refl, sym, ap, _∙_}
+use lib.ListN.{take, drop}
+use Rattle.text.specs.memory.Table.{tableName, tableNames, position, indexed}
+use Rattle.text.proofs.Tables.{position-none, position-here, position-next}
+use Rattle.text.proofs.table.find.Statement.{statement}
+use Rattle.text.proofs.table.find.Tie as tie
+
+abbrev Inv-loop : tie.InvT-loop
+Inv-loop text table source at size name i₀ i =
+    (name ≡ take size (drop at source)) × (i ≤ table .count) × (position name (tableNames text table) ≡ i + position name (indexed (tableName text table) i (table .count - i)))
+
+abbrev μ-loop : tie.MeasureT-loop
+μ-loop text table source at size name i₀ i = table .count - i
+
+part-requires : tie.Need-part-requires Inv-loop μ-loop
+part-requires c κs = search needs
+
+loop-holds : tie.Need-loop-holds Inv-loop μ-loop
+loop-holds c =
+    let a = c .before .before .before .args in
+    let n = c .part .result .now in
+    let e : a .table .count ≡ a .table .count - 0 = omega arith in
+    (c .part .ensures, omega arith, ap (λ (m : ℕ). position n (indexed (tableName (a .text .now) (a .table)) 0 m)) e ∙ omega arith)
+
+is-named-requires : tie.Need-is-named-requires Inv-loop μ-loop
+is-named-requires c κs = search needs
+
+returns : tie.Need-returns Inv-loop μ-loop
+returns c =
+    let a = c .before .before .before .before .before .before .before .before .args in
+    let l = c .before .before .before .before .loop .inv in
+    let z = position-here (c .before .before .before .before .before .part .result .now) (tableName (a .text .now) (a .table)) (c .before .before .before .before .loop .i) (a .table .count - c .before .before .before .before .loop .i) (omega arith) (sym (c .before .is-named .ensures) ∙ c .if2 .taken) in
+    rw (← l .0, l .2, z) (sym (add-zero (c .before .before .before .before .loop .i)))
+
+add-i : tie.Need-add-i Inv-loop μ-loop
+add-i c = search needs
+
+loop-less : tie.Need-loop-less Inv-loop μ-loop
+loop-less c = search needs
+
+loop-again : tie.Need-loop-again Inv-loop μ-loop
+loop-again c =
+    let a = c .before .before .before .before .before .before .before .before .args in
+    let l = c .before .before .before .before .loop .inv in
+    let e : a .table .count - c .before .before .before .before .loop .i - 1 ≡ a .table .count - (c .before .before .before .before .loop .i + 1) = omega arith in
+    let z = position-next (c .before .before .before .before .before .part .result .now) (tableName (a .text .now) (a .table)) (c .before .before .before .before .loop .i) (a .table .count - c .before .before .before .before .loop .i) (omega arith) (sym (c .before .is-named .ensures) ∙ c .if2 .left) in
+    (l .0, omega arith, l .2 ∙ rw z (rw e (omega arith)))
+
+returns-2 : tie.Need-returns-2 Inv-loop μ-loop
+returns-2 c =
+    let a = c .before .before .before .before .before .before .args in
+    let l = c .before .before .loop .inv in
+    let z = position-none (c .before .before .before .part .result .now) (tableName (a .text .now) (a .table)) (c .before .before .loop .i) (a .table .count - c .before .before .loop .i) (omega arith) in
+    rw (← l .0, l .2, z) (sym (add-zero (c .before .before .loop .i)))
+
+pub find-spec : {M : Type 1} → statement M
+find-spec =
+    tie.close
+    (tie.spec
+    Inv-loop
+    μ-loop
+    part-requires
+    loop-holds
+    is-named-requires
+    returns
+    add-i
+    loop-less
+    loop-again
+    returns-2)
