@@ -11,3 +11,4 @@ pub mod GroundSize
 pub mod Clauses
 pub mod Reading
 pub mod Refusals
+pub mod memory

@@ -7,3 +7,4 @@ pub mod Limits
 pub mod Meaning
 pub mod Rules
 pub mod Tables
+pub mod memory

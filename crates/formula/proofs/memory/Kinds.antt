@@ -1,0 +1,34 @@
+-- Laws of `skip`: a turn of the loop that counts the parts still to come, and that it stays within the words.
+-- Assumes nothing.
+use Prim.Native.Nat.{ℕ, zero, suc, _+_, _-_, _≤_, _<_}
+use native.Mathlib.Numerals.{add-one, sub-one}
+use native.Mathlib.Omega.{arith}
+use mathlib.Core.Path.{_≡_, refl}
+use mathlib.Core.List.{List, [], _∷_}
+use lib.ListN.{length, drop, getD, drop-of-length-le, length-drop}
+use lib.Seq.{drop-cons}
+use Rattle.formula.specs.memory.Kinds.{kindOf, partCount, skip}
+
+pub skip-none : (s : List ℕ) → skip s 0 ≡ 0
+unfolding skip
+skip-none [] = refl
+skip-none (w ∷ s) = refl
+
+pub skip-beyond : (s : List ℕ) (i n : ℕ) → length s ≤ i → skip (drop i s) n ≡ 0
+unfolding skip
+skip-beyond s i n h = rw (drop-of-length-le s h)
+
+pub skip-turn : (s : List ℕ) (i n : ℕ) → i < length s → 0 < n
+    → i + skip (drop i s) n ≡ (i + 1) + skip (drop (i + 1) s) (n - 1 + partCount (kindOf (getD s i 0)))
+unfolding skip
+skip-turn s i zero h p = absurd (omega arith)
+skip-turn s i (suc n) h p = rw (drop-cons s i 0 h, add-one i, sub-one (suc n)) (omega arith)
+
+skip-atmost : (s : List ℕ) (n : ℕ) → skip s n ≤ length s
+unfolding skip
+skip-atmost [] n = omega arith
+skip-atmost (w ∷ s) zero = omega arith
+skip-atmost (w ∷ s) (suc n) = let h = skip-atmost s (n + partCount (kindOf w)) in omega arith
+
+pub skip-within : (s : List ℕ) (i n : ℕ) → i ≤ length s → i + skip (drop i s) n ≤ length s
+skip-within s i n h = let k = skip-atmost (drop i s) n in omega (arith, length-drop i s)

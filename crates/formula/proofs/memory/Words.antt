@@ -1,0 +1,146 @@
+-- The words of a formula: one for each unit of its size, and the kinds of its words count its parts, so that `skip` passes over it whole.
+-- Assumes nothing.
+use Prim.Native.Nat.{ℕ, suc, _+_, _*_, _/_, _%_, _<_}
+use native.Mathlib.Nat.{add-suc, add-zero}
+use native.Mathlib.Numerals.{add-two}
+use native.Mathlib.Omega.{arith}
+use mathlib.Core.Path.{_≡_, refl, ap, ap₂, _∙_}
+use mathlib.Core.List.{List, [], _∷_, _++_, append-assoc}
+use mathlib.Core.Bool.{Bool, true, false}
+use lib.ListN.{length, drop, length-append}
+use lib.Seq.{drop-append-seam}
+use Rattle.text.specs.Problem.{Name}
+use Rattle.formula.specs.Formula.{Term, element, variable, Terms, noTerms, term, termCount, Side, all, any, Connective, negation, implies, impliedBy, equivalent, junction}
+use Rattle.formula.specs.Formula.{Formula, truth, atom, equal, connective, quantifier, Formulas, noParts, part, size, sizes}
+use Rattle.formula.specs.memory.Kinds.{kindOf, kindBy, partCount, skip}
+use Rattle.formula.specs.memory.Words.{truthWord, connectiveTag, quantifierTag, partTotal, termWord, termWords, words, allWords}
+use Rattle.formula.specs.memory.Stored.{afterFirst}
+use Rattle.formula.specs.declared.word.Sign.{Sign}
+use Rattle.formula.specs.declared.word.Sign.the-variants as sign
+use Rattle.formula.specs.declared.word.Kind.{Kind}
+use Rattle.formula.specs.declared.word.Kind.the-variants as kind
+use Rattle.formula.proofs.memory.Kinds.{skip-none}
+
+-- The kind of each word.
+
+kind-tag : (tag payload : ℕ) → tag < 16 → kindOf (payload * 16 + tag) ≡ kindBy tag payload
+kind-tag tag payload h =
+    let t : (payload * 16 + tag) % 16 ≡ tag = omega arith in
+    let p : (payload * 16 + tag) / 16 ≡ payload = omega arith in
+    rw (t, p)
+
+pub kind-truth : (b : Bool) → kindOf (truthWord b) ≡ kind.Truth b
+unfolding kindBy
+kind-truth true = refl
+kind-truth false = refl
+
+pub kind-equal : kindOf 11 ≡ kind.Equality
+unfolding kindBy
+kind-equal = refl
+
+abbrev pub isEvery : Side → Bool
+isEvery all = true
+isEvery any = false
+
+abbrev pub signOf : Connective → Sign
+signOf negation = sign.Negation
+signOf implies = sign.Implies
+signOf impliedBy = sign.ImpliedBy
+signOf equivalent = sign.Equivalent
+signOf (junction c) = sign.Junction (isEvery c)
+
+pub kind-connective : (o : Connective) (n : ℕ) → kindOf (n * 16 + connectiveTag o) ≡ kind.Connective (signOf o) n
+unfolding kindBy
+kind-connective negation n = kind-tag 2 n (omega arith)
+kind-connective implies n = kind-tag 5 n (omega arith)
+kind-connective impliedBy n = kind-tag 6 n (omega arith)
+kind-connective equivalent n = kind-tag 7 n (omega arith)
+kind-connective (junction all) n = kind-tag 3 n (omega arith)
+kind-connective (junction any) n = kind-tag 4 n (omega arith)
+
+pub kind-quantifier : (c : Side) (x : ℕ) → kindOf (x * 16 + quantifierTag c) ≡ kind.Quantifier (isEvery c) x
+unfolding kindBy
+kind-quantifier all x = kind-tag 8 x (omega arith)
+kind-quantifier any x = kind-tag 9 x (omega arith)
+
+pub kind-atom : (p n : ℕ) → p < 256 → kindOf ((n * 256 + p) * 16 + 10) ≡ kind.Atom p n
+unfolding kindBy
+kind-atom p n h =
+    let index : (n * 256 + p) % 256 ≡ p = omega arith in
+    let count : (n * 256 + p) / 256 ≡ n = omega arith in
+    kind-tag 10 (n * 256 + p) (omega arith) ∙ ap₂ kind.Atom index count
+
+pub kind-term : (variableIndex : Name → ℕ) (t : Term) → kindOf (termWord variableIndex t) ≡ kind.Term
+unfolding kindBy
+kind-term variableIndex (element v) = kind-tag 12 v (omega arith)
+kind-term variableIndex (variable x) = kind-tag 13 (variableIndex x) (omega arith)
+
+-- Size.
+
+length-termWords : (variableIndex : Name → ℕ) (ts : Terms) → length (termWords variableIndex ts) ≡ termCount ts
+length-termWords variableIndex noTerms = refl
+length-termWords variableIndex (term t ts) = ap suc (length-termWords variableIndex ts)
+
+module _ (variableIndex predicateIndex : Name → ℕ) where
+  mutual
+    unfolding words size
+
+    pub length-words : (f : Formula) → length (words variableIndex predicateIndex f) ≡ size f
+    length-words (truth b) = refl
+    length-words (atom p ts) = ap suc (length-termWords variableIndex ts)
+    length-words (equal s t) = refl
+    length-words (connective o fs) = ap suc (length-allWords fs)
+    length-words (quantifier c x g f) = rw (length-append, length-words g, length-words f)
+
+    pub length-allWords : (fs : Formulas) → length (allWords variableIndex predicateIndex fs) ≡ sizes fs
+    length-allWords noParts = refl
+    length-allWords (part f fs) = rw (length-append, length-words f, length-allWords fs)
+
+-- Whole formulas are passed over whole.
+
+skip-word : (w : ℕ) (k : Kind) (s : List ℕ) (n : ℕ) → kindOf w ≡ k → skip (w ∷ s) (suc n) ≡ suc (skip s (n + partCount k))
+unfolding skip
+skip-word w k s n e = rw e
+
+skip-termWords : (variableIndex : Name → ℕ) (ts : Terms) (n : ℕ) (s : List ℕ)
+    → skip (termWords variableIndex ts ++ s) (n + termCount ts) ≡ termCount ts + skip s n
+skip-termWords variableIndex noTerms n s = rw add-zero (omega arith)
+skip-termWords variableIndex (term t ts) n s =
+    rw (
+      add-suc,
+      skip-word (termWord variableIndex t) _ (termWords variableIndex ts ++ s) (n + termCount ts) (kind-term variableIndex t),
+      add-zero,
+      skip-termWords variableIndex ts n s,
+    ) (omega arith)
+
+-- predicates of an index that an atom's word has room for
+module _ (variableIndex predicateIndex : Name → ℕ) (small : (p : Name) → predicateIndex p < 256) where
+  mutual
+    unfolding words size
+
+    pub skip-words : (f : Formula) (n : ℕ) (s : List ℕ) → skip (words variableIndex predicateIndex f ++ s) (suc n) ≡ size f + skip s n
+    skip-words (truth b) n s = skip-word (truthWord b) _ s n (kind-truth b) ∙ rw add-zero (omega arith)
+    skip-words (atom p ts) n s =
+        skip-word _ _ (termWords variableIndex ts ++ s) n (kind-atom (predicateIndex p) (termCount ts) (small p))
+        ∙ rw (skip-termWords variableIndex ts n s) (omega arith)
+    skip-words (equal t u) n s =
+        skip-word 11 _ (termWord variableIndex t ∷ termWord variableIndex u ∷ s) n kind-equal
+        ∙ ap suc (skip-termWords variableIndex (term t (term u noTerms)) n s) ∙ omega arith
+    skip-words (connective o fs) n s =
+        skip-word _ _ (allWords variableIndex predicateIndex fs ++ s) n (kind-connective o (partTotal fs)) ∙ rw (skip-allWords fs n s) (omega arith)
+    skip-words (quantifier c x g f) n s =
+        skip-word _ _ ((words variableIndex predicateIndex g ++ words variableIndex predicateIndex f) ++ s) n (kind-quantifier c (variableIndex x))
+        ∙ rw (append-assoc, add-two, skip-words g (suc n) (words variableIndex predicateIndex f ++ s), skip-words f n s) (omega arith)
+
+    pub skip-allWords : (fs : Formulas) (n : ℕ) (s : List ℕ)
+        → skip (allWords variableIndex predicateIndex fs ++ s) (n + partTotal fs) ≡ sizes fs + skip s n
+    skip-allWords noParts n s = rw add-zero (omega arith)
+    skip-allWords (part f fs) n s =
+        rw (append-assoc, add-suc, skip-words f (n + partTotal fs) (allWords variableIndex predicateIndex fs ++ s), skip-allWords fs n s) (omega arith)
+
+  pub skip-first : (f : Formula) (s : List ℕ) → skip (words variableIndex predicateIndex f ++ s) 1 ≡ size f
+  skip-first f s = skip-words f 0 s ∙ rw skip-none (omega arith)
+
+  pub afterFirst-words : (f : Formula) (s : List ℕ) → afterFirst (words variableIndex predicateIndex f ++ s) ≡ s
+  afterFirst-words f s =
+      rw (skip-first f s, ← length-words variableIndex predicateIndex f) (drop-append-seam (words variableIndex predicateIndex f) s)

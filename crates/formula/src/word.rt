@@ -1,0 +1,99 @@
+// Words of memory: a formula is one word for each unit of its size, each formula before its parts.
+ghost use mathlib.Core.Path.{_≡_};
+ghost use lib.ListN.{getD};
+ghost use Rattle.formula.specs.memory.Kinds.{kindOf, partCount};
+
+// Which connective.
+pub enum Sign {
+    Negation,
+    Implies,
+    ImpliedBy,
+    Equivalent,
+    // `&` if every part counts, `|` if any does.
+    Junction { every: bool },
+}
+
+// The kind of what a word starts: a formula, or a term.
+pub enum Kind {
+    Truth(bool),
+    Atom { predicate: u32, terms: u32 },
+    Equality,
+    Connective { sign: Sign, parts: u32 },
+    Quantifier { every: bool, variable: u32 },
+    Term,
+}
+
+pub fn kind_of(word: u32) -> Kind
+    ensures { λ r. ⌜ r ≡ kindOf word ⌝ }
+{
+    let payload = word / 16;
+    match word % 16 {
+        0 => Kind::Truth(false),
+        1 => Kind::Truth(true),
+        2 => Kind::Connective {
+            sign: Sign::Negation,
+            parts: payload,
+        },
+        3 => Kind::Connective {
+            sign: Sign::Junction { every: true },
+            parts: payload,
+        },
+        4 => Kind::Connective {
+            sign: Sign::Junction { every: false },
+            parts: payload,
+        },
+        5 => Kind::Connective {
+            sign: Sign::Implies,
+            parts: payload,
+        },
+        6 => Kind::Connective {
+            sign: Sign::ImpliedBy,
+            parts: payload,
+        },
+        7 => Kind::Connective {
+            sign: Sign::Equivalent,
+            parts: payload,
+        },
+        8 => Kind::Quantifier {
+            every: true,
+            variable: payload,
+        },
+        9 => Kind::Quantifier {
+            every: false,
+            variable: payload,
+        },
+        10 => Kind::Atom {
+            predicate: payload % 256,
+            terms: payload / 256,
+        },
+        11 => Kind::Equality,
+        _ => Kind::Term,
+    }
+}
+
+// How many formulas or terms follow a word of a kind as its parts.
+pub fn part_count(kind: Kind) -> u32
+    ensures { λ r. ⌜ r ≡ partCount kind ⌝ }
+{
+    match kind {
+        Kind::Truth(_) => 0,
+        Kind::Atom {
+            predicate: _,
+            terms,
+        } => terms,
+        Kind::Equality => 2,
+        Kind::Connective { sign: _, parts } => parts,
+        Kind::Quantifier {
+            every: _,
+            variable: _,
+        } => 2,
+        Kind::Term => 0,
+    }
+}
+
+// The word at a place; 0 past the end.
+pub fn peek(work: &[u32], at: usize) -> u32
+    ensures { λ r. ⌜ r ≡ getD (now (work .entry)) at 0 ⌝ }
+{
+    if at < work.len() { work[at] } else { 0 }
+}
