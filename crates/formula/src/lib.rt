@@ -1,2 +1,4 @@
 // Formulas: their text and reading, their meaning, and the rules on them.
+pub mod scope;
+pub mod walk;
 pub mod word;

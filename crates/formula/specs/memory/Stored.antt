@@ -61,3 +61,11 @@ module _ (variableName predicateName : ℕ → Name) where
   unfoldable pub formulaAt : ℕ → List ℕ → Formula
   formulaAt zero s = truth false
   formulaAt (suc levels) s = formulaBy (formulaAt levels) (kindOf (getD s 0 0)) (drop 1 s)
+
+-- Memory has indices and no names: there an index stands for its name.
+abbrev pub indexName : ℕ → Name
+indexName i = i ∷ []
+
+-- the formula in memory, by indices
+abbrev pub stored : ℕ → List ℕ → Formula
+stored = formulaAt indexName indexName

@@ -1,0 +1,75 @@
+-- `scope::terms_closed` goes through terms up to the first that is not closed. The invariant: the answer is that of the terms from here.
+-- Assumes nothing.
+use borrow.Author.Needs.{needs}
+use native.Mathlib.Omega.{arith}
+use Prim.Native.Nat.{ℕ, _+_, _≤_}
+use mathlib.Core.Path.{_≡_, refl, sym, ap, _∙_}
+use lib.ListN.{drop}
+use borrow.Author.Tests.{not-true, not-false}
+use Rattle.formula.specs.Names.{termClosed}
+use Rattle.formula.specs.memory.Stored.{indexName, termOf}
+use Rattle.formula.specs.memory.Flags.{flagged, termsClosedAt}
+use Rattle.formula.proofs.memory.Flags.{termsClosed-none, termsClosed-more, termsClosed-stop}
+use Rattle.formula.proofs.scope.terms_closed.Statement.{statement}
+use Rattle.formula.proofs.scope.terms_closed.Tie as tie
+
+abbrev Inv-loop : tie.InvT-loop
+Inv-loop work at count flags i₀ pending₀ i pending =
+    (pending ≤ count) × (i + pending ≡ at + count) × (termsClosedAt flags count (drop at work) ≡ termsClosedAt flags pending (drop i work))
+
+abbrev μ-loop : tie.MeasureT-loop
+μ-loop work at count flags i₀ pending₀ i pending = pending
+
+loop-holds : tie.Need-loop-holds Inv-loop μ-loop
+loop-holds c = (omega arith, refl, refl)
+
+peek-requires : tie.Need-peek-requires Inv-loop μ-loop
+peek-requires c κs = search needs
+
+term-closed-requires : tie.Need-term-closed-requires Inv-loop μ-loop
+term-closed-requires c κs = search needs
+
+returns : tie.Need-returns Inv-loop μ-loop
+returns c =
+    let a = c .before .before .before .before .before .before .args in
+    let l = c .before .before .before .before .loop in
+    let e = ap (λ (w : ℕ). termClosed (flagged (a .flags)) (termOf indexName w)) (sym (c .before .before .peek .ensures)) ∙ sym (c .before .term-closed .ensures) in
+    sym (l .inv .2 ∙ termsClosed-stop (a .work .now) (l .i) (l .pending) (a .flags) (omega arith) (e ∙ not-true _ (c .if1 .taken)))
+
+add-i : tie.Need-add-i Inv-loop μ-loop
+add-i c = search needs
+
+sub-pending : tie.Need-sub-pending Inv-loop μ-loop
+sub-pending c = search needs
+
+loop-less : tie.Need-loop-less Inv-loop μ-loop
+loop-less c = search needs
+
+loop-again : tie.Need-loop-again Inv-loop μ-loop
+loop-again c =
+    let a = c .before .before .before .before .before .before .args in
+    let l = c .before .before .before .before .loop in
+    let e = ap (λ (w : ℕ). termClosed (flagged (a .flags)) (termOf indexName w)) (sym (c .before .before .peek .ensures)) ∙ sym (c .before .term-closed .ensures) in
+    (omega arith, omega arith, l .inv .2 ∙ termsClosed-more (a .work .now) (l .i) (l .pending) (a .flags) (omega arith) (e ∙ not-false _ (c .if1 .left)))
+
+returns-2 : tie.Need-returns-2 Inv-loop μ-loop
+returns-2 c =
+    let a = c .before .before .before .args in
+    let l = c .before .loop in
+    sym (l .inv .2 ∙ termsClosed-none (l .pending) (a .flags) (drop (l .i) (a .work .now)) (omega arith))
+
+pub terms-closed-spec : {M : Type 1} → statement M
+terms-closed-spec =
+    tie.close
+    (tie.spec
+    Inv-loop
+    μ-loop
+    loop-holds
+    peek-requires
+    term-closed-requires
+    returns
+    add-i
+    sub-pending
+    loop-less
+    loop-again
+    returns-2)

@@ -1,0 +1,60 @@
+-- `walk::down` goes one level down, to the place after the parts before.
+-- Assumes nothing.
+use borrow.Author.Needs.{needs}
+use native.Mathlib.Omega.{arith}
+use Prim.Native.Nat.{ℕ, _+_, _≤_, _<_}
+use mathlib.Core.Path.{ap, subst, _∙_}
+use lib.ListN.{drop, getD}
+use Rattle.formula.specs.memory.Kinds.{skip, kindOf}
+use Rattle.formula.specs.memory.Paths.{subformulaCount}
+use Rattle.formula.proofs.memory.Paths.{below-inside, below-at, below-nowhere}
+use Rattle.formula.proofs.walk.down.Statement.{statement}
+use Rattle.formula.proofs.walk.down.Tie as tie
+
+peek-requires : tie.Need-peek-requires
+peek-requires c κs = search needs
+
+kind-of-requires : tie.Need-kind-of-requires
+kind-of-requires c κs = search needs
+
+subformula-count-requires : tie.Need-subformula-count-requires
+subformula-count-requires c κs = search needs
+
+add-past : tie.Need-add-past
+add-past c = search needs
+
+wide-requires : tie.Need-wide-requires
+wide-requires c κs = search needs
+
+past-requires : tie.Need-past-requires
+past-requires c κs =
+    let a = c .before .before .before .before .before .before .args in
+    let d = c .before .before .subformula-count .ensures ∙ ap subformulaCount (c .before .before .before .kind-of .ensures ∙ ap kindOf (c .before .before .before .before .peek .ensures)) in
+    let n = below-inside (a .work .now) (a .at) (a .part) (subst (λ (n : ℕ). a .part < n) d (c .before .if1 .taken)) in
+    (omega arith, omega arith, omega (arith, c .wide .ensures .1))
+
+returns : tie.Need-returns
+returns c =
+    let a = c .before .before .before .before .before .before .before .args in
+    let d = c .before .before .before .subformula-count .ensures ∙ ap subformulaCount (c .before .before .before .before .kind-of .ensures ∙ ap kindOf (c .before .before .before .before .before .peek .ensures)) in
+    let e = c .past .ensures .0 ∙ ap (λ (n : ℕ). a .at + 1 + skip (drop (a .at + 1) (a .work .now)) n) (c .before .wide .ensures .0) in
+    (below-at (a .work .now) (a .at) (a .part) (c .past .result) (subst (λ (n : ℕ). a .part < n) d (c .before .before .if1 .taken)) e, c .past .ensures .1)
+
+returns-2 : tie.Need-returns-2
+returns-2 c =
+    let a = c .before .before .before .before .before .args in
+    let d = c .before .subformula-count .ensures ∙ ap subformulaCount (c .before .before .kind-of .ensures ∙ ap kindOf (c .before .before .before .peek .ensures)) in
+    (below-nowhere (a .work .now) (a .at) (a .part) (subst (λ (n : ℕ). n ≤ a .part) d (c .if1 .left)), tt)
+
+pub down-spec : {M : Type 1} → statement M
+down-spec =
+    tie.close
+    (tie.spec
+    peek-requires
+    kind-of-requires
+    subformula-count-requires
+    add-past
+    wide-requires
+    past-requires
+    returns
+    returns-2)

@@ -1,0 +1,90 @@
+-- `walk::past` finds the place after some formulas. The invariant: from here, with the parts that are still pending, the same place is reached.
+-- Assumes nothing.
+use borrow.Author.Needs.{needs}
+use native.Mathlib.Omega.{arith}
+use Prim.Native.Nat.{ℕ, _+_, _-_, _*_, _≤_}
+use mathlib.Core.Path.{_≡_, refl, ap, _∙_}
+use lib.ListN.{length, drop}
+use Rattle.formula.specs.memory.Kinds.{skip, partCount}
+use Rattle.formula.proofs.memory.Kinds.{skip-none, skip-beyond, skip-turn}
+use Rattle.formula.proofs.walk.past.Statement.{statement}
+use Rattle.formula.proofs.walk.past.Tie as tie
+
+abbrev Inv-loop : tie.InvT-loop
+Inv-loop work at count pending₀ i₀ pending i =
+    (at ≤ i) × (i ≤ length work) × (at + skip (drop at work) count ≡ i + skip (drop i work) pending) × (pending ≤ count + (i - at) * 4294967296)
+
+abbrev μ-loop : tie.MeasureT-loop
+μ-loop work at count pending₀ i₀ pending i = length work - i
+
+loop-holds : tie.Need-loop-holds Inv-loop μ-loop
+loop-holds c = (omega arith, omega arith, refl, omega arith)
+
+returns : tie.Need-returns Inv-loop μ-loop
+returns c =
+    let a = c .before .before .before .before .args in
+    let l = c .before .before .loop in
+    let z = skip-beyond (a .work .now) (l .i) (l .pending) (c .if1 .taken) in
+    (omega (arith, l .inv .2), l .inv .1)
+
+sub-pending : tie.Need-sub-pending Inv-loop μ-loop
+sub-pending c = search needs
+
+mul-kind-of : tie.Need-mul-kind-of Inv-loop μ-loop
+mul-kind-of c = search needs
+
+shared-slice-read-kind-of : tie.Need-shared-slice-read-kind-of Inv-loop μ-loop
+shared-slice-read-kind-of c = search needs
+
+kind-of-requires : tie.Need-kind-of-requires Inv-loop μ-loop
+kind-of-requires c κs = search needs
+
+part-count-requires : tie.Need-part-count-requires Inv-loop μ-loop
+part-count-requires c κs = search needs
+
+wide-requires : tie.Need-wide-requires Inv-loop μ-loop
+wide-requires c κs = search needs
+
+add-pending : tie.Need-add-pending Inv-loop μ-loop
+add-pending c = search needs
+
+add-i : tie.Need-add-i Inv-loop μ-loop
+add-i c = search needs
+
+loop-less : tie.Need-loop-less Inv-loop μ-loop
+loop-less c = search needs
+
+loop-again : tie.Need-loop-again Inv-loop μ-loop
+loop-again c =
+    let a = c .before .before .before .before .before .before .before .before .args in
+    let l = c .before .before .before .before .before .before .loop in
+    let e = c .wide .ensures .0 ∙ c .before .part-count .ensures ∙ ap partCount (c .before .before .kind-of .ensures) in
+    (omega arith, omega arith, l .inv .2 ∙ rw e (skip-turn (a .work .now) (l .i) (l .pending) (c .before .before .before .before .if1 .left) (omega arith)), omega (arith, c .wide .ensures .1))
+
+returns-2 : tie.Need-returns-2 Inv-loop μ-loop
+returns-2 c =
+    let a = c .before .before .before .args in
+    let l = c .before .loop in
+    let p : l .pending ≡ 0 = omega arith in
+    let z = ap (skip (drop (l .i) (a .work .now))) p ∙ skip-none _ in
+    (omega (arith, l .inv .2), l .inv .1)
+
+pub past-spec : {M : Type 1} → statement M
+past-spec =
+    tie.close
+    (tie.spec
+    Inv-loop
+    μ-loop
+    loop-holds
+    returns
+    sub-pending
+    mul-kind-of
+    shared-slice-read-kind-of
+    kind-of-requires
+    part-count-requires
+    wide-requires
+    add-pending
+    add-i
+    loop-less
+    loop-again
+    returns-2)
