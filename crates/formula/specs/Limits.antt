@@ -5,7 +5,7 @@ use mathlib.Core.Bool.{Bool, true, false, cond, _&&_}
 use lib.Dec.{leb}
 use lib.ListN.{length}
 use Rattle.text.specs.Sizes.{nameSize, variableCount, guardQuantifierCount, formulaCount, theorySize}
-use Rattle.text.specs.Bytes.{member}
+use Rattle.text.specs.Bytes.{member, every}
 use Rattle.text.specs.Problem.{Name}
 use Rattle.formula.specs.Formula.{Term, element, variable, Terms, noTerms, term, Formula, truth, atom, equal, connective, quantifier, Formulas, noParts, part, size}
 
@@ -66,12 +66,10 @@ differentCount [] = 0
 differentCount (x ∷ xs) = cond (member x xs) (differentCount xs) (suc (differentCount xs))
 
 abbrev pub namesShort : List Name → Bool
-namesShort [] = true
-namesShort (x ∷ xs) = leb (length x) nameSize && namesShort xs
+namesShort xs = every (λ x. leb (length x) nameSize) xs
 
 abbrev pub guardsFit : List Formula → Bool
-guardsFit [] = true
-guardsFit (f ∷ fs) = leb (guardQuantifiers f) guardQuantifierCount && guardsFit fs
+guardsFit fs = every (λ f. leb (guardQuantifiers f) guardQuantifierCount) fs
 
 abbrev pub sizeTotal : List Formula → ℕ
 sizeTotal [] = 0

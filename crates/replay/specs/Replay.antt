@@ -3,7 +3,7 @@ use Prim.Native.Nat.{ℕ, suc, zero, _+_}
 use mathlib.Core.List.{List, [], _∷_, _++_}
 use mathlib.Core.Bool.{Bool, true, false, _&&_}
 use lib.ListN.{length}
-use Rattle.text.specs.Bytes.{Bytes, bytes, same}
+use Rattle.text.specs.Bytes.{Bytes, bytes, same, every}
 use Rattle.text.specs.Outcome.{Outcome, done, refused, mapped, provided, _>>=_, _>>_}
 use Rattle.text.specs.Reading.{Reader, give, refuse, judge}
 use Rattle.text.specs.Reading as reading
@@ -50,8 +50,7 @@ derivationOf P T s = readText 3 (derivationLine P T) wholeDerivation top s
 -- The end.
 
 abbrev pub areClauses : Problem → List Formula → Bool
-areClauses P [] = true
-areClauses P (f ∷ fs) = isClause P f && areClauses P fs
+areClauses P fs = every (isClause P) fs
 
 -- ground clauses; after UNSAT the one formula `false` stands instead
 abbrev pub isGround : Problem → State → Bool

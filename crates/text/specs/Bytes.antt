@@ -52,10 +52,10 @@ abbrev pub member : Bytes → List Bytes → Bool
 member w [] = false
 member w (v ∷ vs) = same w v || member w vs
 
--- all of one class
-abbrev pub every : (ℕ → Bool) → Bytes → Bool
-every class [] = true
-every class (b ∷ s) = class b && every class s
+-- each of a list passes a test; so all bytes are of a class
+abbrev pub every : {A : Type 0} → (A → Bool) → List A → Bool
+every test [] = true
+every test (a ∷ rest) = test a && every test rest
 
 -- texts after a first one, each behind a separator
 abbrev pub followed : ℕ → List Bytes → Bytes

@@ -40,8 +40,7 @@ abbrev pub inBounds : ℕ → ℕ → ℕ → Bool
 inBounds least greatest n = leb least n && leb n greatest
 
 abbrev pub allInBounds : ℕ → ℕ → List ℕ → Bool
-allInBounds least greatest [] = true
-allInBounds least greatest (n ∷ ns) = inBounds least greatest n && allInBounds least greatest ns
+allInBounds least greatest ns = every (inBounds least greatest) ns
 
 abbrev pub areNames : List ℕ → Bool
 areNames ns = allInBounds 1 greatestName ns
@@ -61,8 +60,7 @@ ruleLineFits (trivial p) = positionFits p
 ruleLineFits (splitc p names) = positionFits p && newNamesFit names
 
 abbrev pub ruleLinesFit : List RuleLine → Bool
-ruleLinesFit [] = true
-ruleLinesFit (l ∷ ls) = ruleLineFits l && ruleLinesFit ls
+ruleLinesFit ls = every ruleLineFits ls
 
 abbrev pub lineFits : Line → Bool
 lineFits (step l) = ruleLineFits l

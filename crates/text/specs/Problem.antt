@@ -120,8 +120,7 @@ rowFits n (suc arity) [] = false
 rowFits n (suc arity) (v ∷ vs) = isElement n v && rowFits n arity vs
 
 abbrev pub rowsFit : ℕ → ℕ → List Row → Bool
-rowsFit n arity [] = true
-rowsFit n arity (row ∷ rows) = rowFits n arity row && rowsFit n arity rows
+rowsFit n arity rows = every (rowFits n arity) rows
 
 -- a row before another, element by element
 abbrev pub before : Row → Row → Bool

@@ -1,6 +1,6 @@
 // What stands in the texts: bytes, numbers, lines, the problem and derivation lines.
 pub mod byte;
 pub mod line;
-pub mod number;
 pub mod name;
+pub mod number;
 pub mod table;
