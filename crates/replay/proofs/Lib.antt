@@ -8,3 +8,4 @@ pub mod Refusals
 pub mod Ground
 pub mod Accepted
 pub mod Demands
+pub mod NameLists

@@ -3,3 +3,4 @@ pub mod Steps
 pub mod Replay
 pub mod Answer
 pub mod Accepted
+pub mod memory

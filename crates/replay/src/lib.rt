@@ -1,1 +1,2 @@
 // Theories, the replay of a derivation, and the answers of the jobs.
+pub mod names;

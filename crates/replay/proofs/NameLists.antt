@@ -1,0 +1,74 @@
+-- Lists of names in memory and in a text, one name after the other.
+-- Assumes nothing.
+use Prim.Native.Nat.{ℕ, zero, suc, _+_, _-_, _≤_, _<_}
+use native.Mathlib.Numerals.{add-one}
+use native.Mathlib.Omega.{arith}
+use mathlib.Core.Path.{_≡_, refl, sym, ap, _∙_}
+use mathlib.Core.List.{List, [], _∷_}
+use mathlib.Core.Bool.{Bool, true, false, cond, _&&_}
+use lib.Dec.{eqb}
+use lib.ListN.{length, getD, take, drop, length-take, length-drop, drop-of-length-le}
+use lib.Seq.{drop-cons, getD-take, getD-drop}
+use borrow.Author.Tests.{eq-eqb, ne-eqb}
+use Rattle.text.specs.Bytes.{Bytes, same}
+use Rattle.text.specs.memory.Numbers.{numberAt, numberEnd, numbersAt}
+use Rattle.replay.specs.memory.Names.{indexIn}
+
+-- a list that stands in memory from a place on
+abbrev pub region : List ℕ → ℕ → ℕ → List ℕ
+region work start count = take count (drop start work)
+
+module _ (work : List ℕ) (start count : ℕ) (fits : start + count ≤ length work) where
+  pub region-length : length (region work start count) ≡ count
+  region-length = simp (length-take, length-drop) (omega arith)
+
+  pub region-more : (i : ℕ) → i < count → drop i (region work start count) ≡ getD work (start + i) 0 ∷ drop (i + 1) (region work start count)
+  region-more i h =
+      let long = region-length in
+      let inside : i < length (region work start count) = omega arith in
+      drop-cons (region work start count) i 0 inside ∙ rw (add-one, getD-take count (drop start work) i 0 h, getD-drop start work i 0)
+
+  pub region-end : (i : ℕ) → count ≤ i → drop i (region work start count) ≡ []
+  region-end i h =
+      let long = region-length in
+      let past : length (region work start count) ≤ i = omega arith in
+      drop-of-length-le (region work start count) past
+
+module _ (name n : ℕ) (ns : List ℕ) where
+  pub index-here : n ≡ name → indexIn name (n ∷ ns) ≡ 0
+  unfolding indexIn
+  index-here e = rw (eq-eqb n name e)
+
+  pub index-later : (n ≡ name → ⊥) → indexIn name (n ∷ ns) ≡ suc (indexIn name ns)
+  unfolding indexIn
+  index-later e = rw (ne-eqb n name e)
+
+pub index-none : (name : ℕ) → indexIn name [] ≡ 0
+unfolding indexIn
+index-none name = refl
+
+-- the first of some numbers of a text, and the others
+pub numbers-more : (text : Bytes) (at many : ℕ) → 0 < many → numbersAt text at many ≡ numberAt text at ∷ numbersAt text (numberEnd text at + 1) (many - 1)
+unfolding numbersAt
+numbers-more text at zero h = absurd (omega arith)
+numbers-more text at (suc many) h = let e : suc many - 1 ≡ many = omega arith in rw e
+
+pub numbers-none : (text : Bytes) (at many : ℕ) → many ≡ 0 → numbersAt text at many ≡ []
+unfolding numbersAt
+numbers-none text at many e = rw e
+
+-- lists of different lengths are not the same
+pub same-lengths : (s t : List ℕ) → (length s ≡ length t → ⊥) → same s t ≡ false
+same-lengths [] [] h = absurd (h refl)
+same-lengths [] (b ∷ t) h = refl
+same-lengths (a ∷ s) [] h = refl
+same-lengths (a ∷ s) (b ∷ t) h = pick (eqb a b) (same-lengths s t (λ e. h (ap suc e)))
+  where
+    pick : (c : Bool) → same s t ≡ false → (c && same s t) ≡ false
+    pick true e = e
+    pick false e = refl
+
+pub numbers-length : (text : Bytes) (at many : ℕ) → length (numbersAt text at many) ≡ many
+unfolding numbersAt
+numbers-length text at zero = refl
+numbers-length text at (suc many) = ap suc (numbers-length text (numberEnd text at + 1) many)

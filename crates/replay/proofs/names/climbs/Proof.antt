@@ -1,0 +1,67 @@
+-- `names::climbs` goes over new names. The invariant: whether all climb, and to where, is whether the rest do from the greatest so far.
+-- Assumes nothing.
+use borrow.Author.Needs.{needs}
+use native.Mathlib.Omega.{arith}
+use borrow.Author.Tests.{lt-ltb, le-ltb}
+use Prim.Native.Nat.{_+_, _-_, _≤_}
+use mathlib.Core.Path.{_≡_, refl, sym, ap, _∙_}
+use lib.ListN.{length, drop, getD}
+use Rattle.text.specs.memory.Numbers.{numberAt, numberEnd, numbersAt}
+use Rattle.replay.specs.Theory.{climbing, highest}
+use Rattle.replay.proofs.NameLists.{numbers-more, numbers-none}
+use Rattle.replay.proofs.names.climbs.Statement.{statement}
+use Rattle.replay.proofs.names.climbs.Tie as tie
+
+abbrev Inv-loop : tie.InvT-loop
+Inv-loop text at many top place₀ greatest₀ left₀ place greatest left = (left ≤ many) × (place + left ≤ 300000) × (climbing top (numbersAt text at many) ≡ climbing greatest (numbersAt text place left)) × (highest top (numbersAt text at many) ≡ highest greatest (numbersAt text place left))
+
+abbrev μ-loop : tie.MeasureT-loop
+μ-loop text at many top place₀ greatest₀ left₀ place greatest left = left
+
+loop-holds : tie.Need-loop-holds Inv-loop μ-loop
+loop-holds c = (omega arith, omega arith, refl, refl)
+
+digits-at-requires : tie.Need-digits-at-requires Inv-loop μ-loop
+digits-at-requires c κs = search needs
+
+returns : tie.Need-returns Inv-loop μ-loop
+returns c =
+    let s = c .before .before .before .before .before .args .text .now in
+    c .before .before .before .loop .inv .2 ∙ rw (numbers-more s (c .before .before .before .loop .place) (c .before .before .before .loop .left) (c .before .before .loop-test .taken), ← c .before .digits-at .ensures .value, le-ltb (c .before .before .before .loop .greatest) (c .before .digits-at .result .value) (c .if1 .taken))
+
+add-place : tie.Need-add-place Inv-loop μ-loop
+add-place c = omega (arith, c .before .before .digits-at .ensures .within)
+
+sub-left : tie.Need-sub-left Inv-loop μ-loop
+sub-left c = search needs
+
+loop-less : tie.Need-loop-less Inv-loop μ-loop
+loop-less c = search needs
+
+loop-again : tie.Need-loop-again Inv-loop μ-loop
+loop-again c =
+    let s = c .before .before .before .before .before .before .args .text .now in
+    let d = c .before .before .digits-at .ensures in
+    let e = numbers-more s (c .before .before .before .before .loop .place) (c .before .before .before .before .loop .left) (c .before .before .before .loop-test .taken) in
+    (omega arith, omega (arith, d .within), c .before .before .before .before .loop .inv .2 ∙ rw (e, ← d .value, ← d .next, lt-ltb (c .before .before .before .before .loop .greatest) (c .before .before .digits-at .result .value) (c .before .if1 .left)), c .before .before .before .before .loop .inv .3 ∙ rw (e, ← d .value, ← d .next))
+
+returns-2 : tie.Need-returns-2 Inv-loop μ-loop
+returns-2 c =
+    let s = c .before .before .before .args .text .now in
+    let e = numbers-none s (c .before .loop .place) (c .before .loop .left) (omega arith) in
+    (c .before .loop .inv .2 ∙ rw e, c .before .loop .inv .3 ∙ rw e)
+
+pub climbs-spec : {M : Type 1} → statement M
+climbs-spec =
+    tie.close
+    (tie.spec
+    Inv-loop
+    μ-loop
+    loop-holds
+    digits-at-requires
+    returns
+    add-place
+    sub-left
+    loop-less
+    loop-again
+    returns-2)
