@@ -9,3 +9,4 @@ pub mod Ground
 pub mod Accepted
 pub mod Demands
 pub mod NameLists
+pub mod Cleared

@@ -1,0 +1,56 @@
+-- `clearing::clear` zeroes numbers one by one. The invariant: those passed are zero, and the others as they were.
+-- Assumes nothing.
+use borrow.Author.Needs.{needs}
+use native.Mathlib.Omega.{arith}
+use Prim.Native.Nat.{ℕ, _+_, _-_, _≤_}
+use mathlib.Core.Path.{_≡_, refl, sym, ap, _∙_}
+use mathlib.Core.List.{List, _++_}
+use lib.ListN.{length, set, drop, replicate, length-set}
+use Rattle.replay.proofs.Cleared.{cleared-more}
+use Rattle.replay.proofs.clearing.clear.Statement.{statement}
+use Rattle.replay.proofs.clearing.clear.Tie as tie
+
+abbrev Inv-loop : tie.InvT-loop
+Inv-loop work₀ count i₀ work i = (i ≤ count) × (length work ≡ length work₀) × (work ≡ replicate i 0 ++ drop i work₀)
+
+abbrev μ-loop : tie.MeasureT-loop
+μ-loop work₀ count i₀ work i = count - i
+
+loop-holds : tie.Need-loop-holds Inv-loop μ-loop
+loop-holds c = (omega arith, refl, refl)
+
+mul-work : tie.Need-mul-work Inv-loop μ-loop
+mul-work c = search needs
+
+slice-write-work : tie.Need-slice-write-work Inv-loop μ-loop
+slice-write-work c = omega (arith, c .before .loop .inv .1)
+
+add-i : tie.Need-add-i Inv-loop μ-loop
+add-i c = search needs
+
+loop-less : tie.Need-loop-less Inv-loop μ-loop
+loop-less c = search needs
+
+loop-again : tie.Need-loop-again Inv-loop μ-loop
+loop-again c = (omega arith, length-set (c .before .loop .work) (c .before .loop .i) 0 ∙ c .before .loop .inv .1, ap (λ (w : List ℕ). set w (c .before .loop .i) 0) (c .before .loop .inv .2) ∙ cleared-more (c .before .before .args .work .now) (c .before .loop .i) (omega (arith, c .before .before .pre)))
+
+same-length : tie.Need-same-length Inv-loop μ-loop
+same-length c = c .before .loop .inv .1
+
+returns : tie.Need-returns Inv-loop μ-loop
+returns c = let e : c .before .loop .i ≡ c .before .before .args .count = omega (arith, c .before .loop .inv .0, c .loop-test .left) in rw (← e) (c .before .loop .inv .2)
+
+pub clear-spec : {M : Type 1} → statement M
+clear-spec =
+    tie.close
+    (tie.spec
+    Inv-loop
+    μ-loop
+    loop-holds
+    mul-work
+    slice-write-work
+    add-i
+    loop-less
+    loop-again
+    same-length
+    returns)
