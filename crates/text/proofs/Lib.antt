@@ -12,3 +12,4 @@ pub mod Refusals
 pub mod NumberPlaces
 pub mod Parts
 pub mod Tables
+pub mod Packing

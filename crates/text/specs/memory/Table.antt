@@ -15,11 +15,24 @@ unfoldable pub packed : Row → ℕ
 packed [] = 0
 packed (v ∷ vs) = v + 256 * packed vs
 
+-- what an element adds to a row's number, at its place
+unfoldable pub placed : ℕ → ℕ → ℕ
+placed zero v = v
+placed (suc place) v = 256 * placed place v
+
 -- the row of some length that a number stands for; what a number has beyond that length is one element more
 unfoldable pub unpacked : ℕ → ℕ → Row
 unpacked zero zero = []
 unpacked zero (suc n) = suc n ∷ []
 unpacked (suc arity) n = n % 256 ∷ unpacked arity (n / 256)
+
+-- a row's elements read as digits, the first the highest, after those that made a rank
+unfoldable pub rankAfter : ℕ → Row → ℕ
+rankAfter rank [] = rank
+rankAfter rank (v ∷ vs) = rankAfter (rank * 256 + v) vs
+
+abbrev pub ranked : Row → ℕ
+ranked row = rankAfter 0 row
 
 -- a number is one of a list
 unfoldable pub among : ℕ → List ℕ → Bool
