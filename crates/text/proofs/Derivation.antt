@@ -26,7 +26,7 @@ use Rattle.text.proofs.Numbers.{decimal-first}
 -- What is read fits, and has that text.
 
 module _ (least greatest : ℕ) where
-  reads-ranged : Reads [] (λ n. inBounds least greatest n ≡ true) decimal (readRanged least greatest)
+  pub reads-ranged : Reads [] (λ n. inBounds least greatest n ≡ true) decimal (readRanged least greatest)
   unfolding readRanged
   reads-ranged = reads-then (reads-number 10) _ λ n _. reads-then (reads-require 10 _) _ λ _ fits. reads-give fits (append-nil (decimal n))
 

@@ -13,3 +13,6 @@ pub mod NumberPlaces
 pub mod Parts
 pub mod Tables
 pub mod Packing
+pub mod Found
+pub mod Separated
+pub mod LinePlaces

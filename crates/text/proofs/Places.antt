@@ -3,6 +3,7 @@
 use Prim.Native.Nat.{ℕ, zero, suc, _+_, _-_, _≤_, _<_}
 use native.Mathlib.Nat.{add-zero}
 use native.Mathlib.Numerals.{add-one}
+use native.Mathlib.Decide.{decLt}
 use native.Mathlib.Omega.{arith}
 use mathlib.Core.Path.{_≡_, refl, sym, ap, _∙_}
 use mathlib.Core.List.{List, [], _∷_}
@@ -20,6 +21,14 @@ module _ (s : Bytes) (i : ℕ) where
 
   pub next-beyond : length s ≤ i → 0 ≡ next (drop i s)
   next-beyond h = sym (List·getD-eq-default s 0 h) ∙ next-within
+
+  -- a byte that is not 0 stands within the text
+  pub next-inside : 0 < next (drop i s) → i < length s
+  next-inside h = pick (decLt i (length s))
+    where
+      pick : Dec (i < length s) → i < length s
+      pick (yes k) = k
+      pick (no k) = absurd (omega (arith, next-beyond (omega arith)))
 
   pub span-beyond : (class : ℕ → Bool) → length s ≤ i → span class (drop i s) ≡ []
   unfolding span

@@ -72,7 +72,7 @@ reads-require number true = record { sound = λ s. (refl, refl) }
 reads-require number false = record { sound = λ s. tt }
 
 -- a text that begins with a word is that word and the rest
-begins-split : (w s : Bytes) → begins w s ≡ true → s ≡ w ++ drop (length w) s
+pub begins-split : (w s : Bytes) → begins w s ≡ true → s ≡ w ++ drop (length w) s
 begins-split [] s e = refl
 begins-split (a ∷ w) [] e = absurd (false≢true e)
 begins-split (a ∷ w) (b ∷ s) e =

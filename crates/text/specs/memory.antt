@@ -1,3 +1,5 @@
 pub mod Classes
+pub mod Found
 pub mod Numbers
 pub mod Table
+pub mod RuleLines

@@ -4,3 +4,4 @@ pub mod line;
 pub mod name;
 pub mod number;
 pub mod table;
+pub mod rule_line;

@@ -1,0 +1,75 @@
+-- `rule_line::numbers_at` reads numbers one by one. The invariant: the list is what was read and the list from here on.
+-- Assumes nothing.
+use borrow.Author.Needs.{needs}
+use mathlib.Core.Path.{_≡_, sym, _∙_, subst}
+use native.Mathlib.Omega.{arith}
+use Prim.Native.Nat.{_-_}
+use lib.ListN.{length}
+use Rattle.text.specs.memory.RuleLines.{ToldRanged, RangedFound}
+use Rattle.text.proofs.LinePlaces.{NumbersPassed, numbers-first, numbers-refused, numbers-last, numbers-on}
+use Rattle.text.proofs.rule_line.numbers_at.Statement.{statement}
+use Rattle.text.proofs.rule_line.numbers_at.Tie as tie
+
+abbrev Inv-loop : tie.InvT-loop
+Inv-loop text at least greatest i₀ many₀ i many = NumbersPassed least greatest text at i many
+
+abbrev μ-loop : tie.MeasureT-loop
+μ-loop text at least greatest i₀ many₀ i many = length text - i
+
+loop-holds : tie.Need-loop-holds Inv-loop μ-loop
+loop-holds c = numbers-first (c .before .args .least) (c .before .args .greatest) (c .before .args .text .now) (c .before .args .at) (c .before .pre .0)
+
+ranged-at-requires : tie.Need-ranged-at-requires Inv-loop μ-loop
+ranged-at-requires c κs = search needs
+
+enum-known-next : tie.Need-enum-known-next Inv-loop μ-loop
+enum-known-next c = search needs
+
+add-many : tie.Need-add-many Inv-loop μ-loop
+add-many c = let f = subst (ToldRanged (c .before .before .before .before .before .before .args .least) (c .before .before .before .before .before .before .args .greatest) (c .before .before .before .before .before .before .args .text .now) (c .before .before .before .before .loop .i)) (c .before .next .given .1) (c .before .before .before .ranged-at .ensures) in omega (arith, f .found .within, c .before .before .before .before .loop .inv .few, f .after)
+
+peek-requires : tie.Need-peek-requires Inv-loop μ-loop
+peek-requires c κs = search needs
+
+returns : tie.Need-returns Inv-loop μ-loop
+returns c =
+    let a = c .before .before .before .before .before .before .before .before .args in
+    numbers-last (a .least) (a .greatest) (a .text .now) (a .at) (c .before .before .before .before .before .before .loop .i) (c .before .before .before .before .before .before .loop .many) (c .before .before .before .before .before .before .loop .inv) _ _ (subst (ToldRanged (c .before .before .before .before .before .before .before .before .args .least) (c .before .before .before .before .before .before .before .before .args .greatest) (c .before .before .before .before .before .before .before .before .args .text .now) (c .before .before .before .before .before .before .loop .i)) (c .before .before .before .next .given .1) (c .before .before .before .before .before .ranged-at .ensures)) (λ e. c .if1 .taken (c .before .peek .ensures ∙ e))
+
+add-i : tie.Need-add-i Inv-loop μ-loop
+add-i c = let f = subst (ToldRanged (c .before .before .before .before .before .before .before .before .args .least) (c .before .before .before .before .before .before .before .before .args .greatest) (c .before .before .before .before .before .before .before .before .args .text .now) (c .before .before .before .before .before .before .loop .i)) (c .before .before .before .next .given .1) (c .before .before .before .before .before .ranged-at .ensures) in omega (arith, f .found .within)
+
+loop-less : tie.Need-loop-less Inv-loop μ-loop
+loop-less c = let f = subst (ToldRanged (c .before .before .before .before .before .before .before .before .args .least) (c .before .before .before .before .before .before .before .before .args .greatest) (c .before .before .before .before .before .before .before .before .args .text .now) (c .before .before .before .before .before .before .loop .i)) (c .before .before .before .next .given .1) (c .before .before .before .before .before .ranged-at .ensures) in omega (arith, f .found .within, f .after, c .before .before .before .before .before .before .loop .inv .within)
+
+loop-again : tie.Need-loop-again Inv-loop μ-loop
+loop-again c =
+    let a = c .before .before .before .before .before .before .before .before .args in
+    numbers-on (a .least) (a .greatest) (a .text .now) (a .at) (c .before .before .before .before .before .before .loop .i) (c .before .before .before .before .before .before .loop .many) (c .before .before .before .before .before .before .loop .inv) _ _ (subst (ToldRanged (c .before .before .before .before .before .before .before .before .args .least) (c .before .before .before .before .before .before .before .before .args .greatest) (c .before .before .before .before .before .before .before .before .args .text .now) (c .before .before .before .before .before .before .loop .i)) (c .before .before .before .next .given .1) (c .before .before .before .before .before .ranged-at .ensures)) (sym (c .before .peek .ensures) ∙ c .if1 .left)
+
+enum-told : tie.Need-enum-told Inv-loop μ-loop
+enum-told c = search needs
+
+returns-2 : tie.Need-returns-2 Inv-loop μ-loop
+returns-2 c =
+    let a = c .before .before .before .before .before .args in
+    numbers-refused (a .least) (a .greatest) (a .text .now) (a .at) (c .before .before .before .loop .i) (c .before .before .before .loop .many) (c .before .before .before .loop .inv)
+    (subst (ToldRanged (a .least) (a .greatest) (a .text .now) (c .before .before .before .loop .i)) (c .enum-told .given .1) (c .before .before .ranged-at .ensures))
+
+pub numbers-at-spec : {M : Type 1} → statement M
+numbers-at-spec =
+    tie.close
+    (tie.spec
+    Inv-loop
+    μ-loop
+    loop-holds
+    ranged-at-requires
+    enum-known-next
+    add-many
+    peek-requires
+    returns
+    add-i
+    loop-less
+    loop-again
+    enum-told
+    returns-2)

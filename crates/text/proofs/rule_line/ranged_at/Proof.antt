@@ -1,0 +1,59 @@
+-- `rule_line::ranged_at` reads a number and compares it with the range.
+-- Assumes nothing.
+use borrow.Author.Needs.{needs}
+use mathlib.Core.Path.{_≡_, subst}
+use Rattle.text.specs.memory.Numbers.{ToldNumber}
+use Rattle.text.proofs.LinePlaces.{ranged-inside, ranged-below, ranged-above, ranged-beyond, ranged-misspelled}
+use Rattle.text.proofs.rule_line.ranged_at.Statement.{statement}
+use Rattle.text.proofs.rule_line.ranged_at.Tie as tie
+
+number-at-requires : tie.Need-number-at-requires
+number-at-requires c κs = search needs
+
+enum-known-next : tie.Need-enum-known-next
+enum-known-next c = search needs
+
+returns : tie.Need-returns
+returns c =
+    let a = c .before .before .before .before .before .before .args in
+    ranged-below (a .least) (a .greatest) (a .text .now) (a .at) (subst (ToldNumber (a .text .now) (a .at)) (c .before .before .next .given .1) (c .before .before .before .before .number-at .ensures)) (c .if1 .taken)
+
+returns-2 : tie.Need-returns-2
+returns-2 c =
+    let a = c .before .before .before .before .before .before .before .args in
+    ranged-above (a .least) (a .greatest) (a .text .now) (a .at) (subst (ToldNumber (a .text .now) (a .at)) (c .before .before .before .next .given .1) (c .before .before .before .before .before .number-at .ensures)) (c .if2 .taken)
+
+enum-told : tie.Need-enum-told
+enum-told c = search needs
+
+enum-told-2 : tie.Need-enum-told-2
+enum-told-2 c = search needs
+
+returns-3 : tie.Need-returns-3
+returns-3 c =
+    let a = c .before .before .before .before .before .before .before .args in
+    ranged-inside (a .least) (a .greatest) (a .text .now) (a .at) (subst (ToldNumber (a .text .now) (a .at)) (c .before .before .before .next .given .1) (c .before .before .before .before .before .number-at .ensures)) (c .before .if1 .left) (c .if2 .left)
+
+returns-4 : tie.Need-returns-4
+returns-4 c =
+    let a = c .before .before .before .before .args in
+    ranged-beyond (a .least) (a .greatest) (a .text .now) (a .at) (subst (ToldNumber (a .text .now) (a .at)) (c .enum-told .given .1) (c .before .before .number-at .ensures)) (c .before .before .before .before .pre .1)
+
+returns-5 : tie.Need-returns-5
+returns-5 c =
+    let a = c .before .before .before .before .args in
+    ranged-misspelled (a .least) (a .greatest) (a .text .now) (a .at) (subst (ToldNumber (a .text .now) (a .at)) (c .enum-told2 .given .1) (c .before .before .number-at .ensures))
+
+pub ranged-at-spec : {M : Type 1} → statement M
+ranged-at-spec =
+    tie.close
+    (tie.spec
+    number-at-requires
+    enum-known-next
+    returns
+    returns-2
+    enum-told
+    enum-told-2
+    returns-3
+    returns-4
+    returns-5)

@@ -1,0 +1,122 @@
+-- What the code tells of derivation lines: for each list of numbers the place of the first and how many there are.
+use Prim.Native.Nat.{ℕ, _+_, _≤_, _<_}
+use mathlib.Core.Path.{_≡_}
+use mathlib.Core.List.{List, [], _∷_}
+use mathlib.Core.Bool.{false}
+use lib.ListN.{length, drop}
+use Rattle.text.specs.Bytes.{Bytes, bytes, begins}
+use Rattle.text.specs.Outcome.{Outcome, done, refused}
+use Rattle.text.specs.Reading.{Reader, give, _⇒_, oneOf, separated}
+use Rattle.text.specs.Derivation.{Position, Rule, SNAND, SNOR, STN, EPRED, EPROP, IQ, RuleLine, rewrite, unsat, trivial, splitc, Line, step, footer}
+use Rattle.text.specs.Derivation.{readRanged, readFormulaName, readPosition, atPosition, readSplit, readFooter}
+use Rattle.text.specs.memory.Found.{Found, Taken, Refused, WordFound}
+use Rattle.text.specs.memory.Numbers.{numberAt, numberEnd, numbersAt}
+use Rattle.text.specs.declared.rule_line.Rule.{Rule as RuleName}
+use Rattle.text.specs.declared.rule_line.Rule.the-variants.{Snand, Snor, Stn, Epred, Eprop, Iq}
+use Rattle.text.specs.declared.rule_line.Ended.{Ended}
+use Rattle.text.specs.declared.rule_line.Ended.the-variants as ended
+use Rattle.text.specs.declared.rule_line.RangedRead.{RangedRead}
+use Rattle.text.specs.declared.rule_line.RangedRead.the-variants as ranged
+use Rattle.text.specs.declared.rule_line.NumbersRead.{NumbersRead}
+use Rattle.text.specs.declared.rule_line.NumbersRead.the-variants as numbers
+use Rattle.text.specs.declared.rule_line.PositionRead.{PositionRead}
+use Rattle.text.specs.declared.rule_line.PositionRead.the-variants as position
+use Rattle.text.specs.declared.rule_line.LineKind.{LineKind}
+use Rattle.text.specs.declared.rule_line.LineKind.the-variants as kind
+use Rattle.text.specs.declared.rule_line.LineRead.{LineRead}
+use Rattle.text.specs.declared.rule_line.LineRead.the-variants as line
+
+abbrev pub ruleOf : RuleName → Rule
+ruleOf Snand = SNAND
+ruleOf Snor = SNOR
+ruleOf Stn = STN
+ruleOf Epred = EPRED
+ruleOf Eprop = EPROP
+ruleOf Iq = IQ
+
+abbrev pub positionAt : Bytes → ℕ → ℕ → ℕ → Position
+positionAt text name path steps = record { name = name; path = numbersAt text path steps }
+
+-- the footer's names
+abbrev pub readFinalNames : Reader (List ℕ)
+readFinalNames = oneOf (bytes "-" ⇒ give [] ∷ []) (separated 44 readFormulaName)
+
+-- a word stands there, or it does not
+abbrev pub ToldWord : Bytes → Bytes → ℕ → Ended → Type 0
+ToldWord w text at (ended.At next) = WordFound w text at next
+ToldWord w text at ended.Malformed = begins w (drop at text) ≡ false
+
+-- something is read
+pub record EndFound {A : Type 0} (reader : Reader A) (text : Bytes) (at next : ℕ) : Type 0 where
+  pub thing : A
+  pub taken : Taken reader text at thing next
+
+abbrev pub ToldEnd : {A : Type 0} → Reader A → Bytes → ℕ → Ended → Type 0
+ToldEnd reader text at (ended.At next) = EndFound reader text at next
+ToldEnd reader text at ended.Malformed = Refused 10 reader text at
+
+-- a number of a range is read
+pub record RangedFound (least greatest : ℕ) (text : Bytes) (at number next : ℕ) : Type 0 where
+  pub found : Found (readRanged least greatest) text at number next
+  pub stands : number ≡ numberAt text at
+  pub ends : next ≡ numberEnd text at
+  pub after : at < next
+
+abbrev pub ToldRanged : ℕ → ℕ → Bytes → ℕ → RangedRead → Type 0
+ToldRanged least greatest text at (ranged.Value number next) = RangedFound least greatest text at number next
+ToldRanged least greatest text at ranged.Malformed = Refused 10 (readRanged least greatest) text at
+
+-- numbers are read
+pub record NumbersFound (reader : Reader (List ℕ)) (text : Bytes) (at first many next : ℕ) : Type 0 where
+  pub found : Found reader text at (numbersAt text first many) next
+  pub few : first + many ≤ next
+
+abbrev pub ToldNumbers : Reader (List ℕ) → Bytes → ℕ → NumbersRead → Type 0
+ToldNumbers reader text at (numbers.Numbers first many next) = NumbersFound reader text at first many next
+ToldNumbers reader text at numbers.Malformed = Refused 10 reader text at
+
+-- a position is read
+pub record PositionFound (text : Bytes) (at name path steps next : ℕ) : Type 0 where
+  pub found : Found readPosition text at (positionAt text name path steps) next
+  pub few : path + steps ≤ next
+
+abbrev pub ToldPosition : Bytes → ℕ → PositionRead → Type 0
+ToldPosition text at (position.Position name path steps next) = PositionFound text at name path steps next
+ToldPosition text at position.Malformed = Refused 10 readPosition text at
+
+-- a position is read that ends its line, whatever line is made of it
+pub record LastFound (text : Bytes) (at name path steps next : ℕ) : Type 0 where
+  pub found : (make : Position → RuleLine) → Taken (atPosition make) text at (step (make (positionAt text name path steps))) next
+  pub few : path + steps ≤ next
+
+abbrev pub ToldLast : Bytes → ℕ → PositionRead → Type 0
+ToldLast text at (position.Position name path steps next) = LastFound text at name path steps next
+ToldLast text at position.Malformed = (make : Position → RuleLine) → Refused 10 (atPosition make) text at
+
+abbrev pub ToldLine : Reader Line → Bytes → ℕ → LineRead → Type 0
+ToldLine reader text at (line.Rewrite rule name path steps next) =
+    Taken reader text at (step (rewrite (ruleOf rule) (positionAt text name path steps))) next × (path + steps ≤ next)
+ToldLine reader text at (line.Unsat name path steps next) =
+    Taken reader text at (step (unsat (positionAt text name path steps))) next × (path + steps ≤ next)
+ToldLine reader text at (line.Trivial name path steps next) =
+    Taken reader text at (step (trivial (positionAt text name path steps))) next × (path + steps ≤ next)
+ToldLine reader text at (line.Split name path steps names many next) =
+    Taken reader text at (step (splitc (positionAt text name path steps) (numbersAt text names many))) next
+    × ((path + steps ≤ next) × (names + many ≤ next))
+ToldLine reader text at (line.Footer names many next) = Taken reader text at (footer (numbersAt text names many)) next × (names + many ≤ next)
+ToldLine reader text at line.Malformed = Refused 10 reader text at
+
+-- the outcome is what another reader makes of the text from a later place on
+pub record Behind (outcome : Outcome ℕ (Line × Bytes)) (reader : Reader Line) (text : Bytes) (at next : ℕ) : Type 0 where
+  pub is : outcome ≡ reader (drop next text)
+  pub after : at < next
+  pub within : next ≤ length text
+
+-- the kind of a line is told by its word, and what follows is read as that kind
+abbrev pub ToldKind : Outcome ℕ (Line × Bytes) → Bytes → ℕ → LineKind → Type 0
+ToldKind outcome text at (kind.Rewrite rule next) = Behind outcome (atPosition (rewrite (ruleOf rule))) text at next
+ToldKind outcome text at (kind.Unsat next) = Behind outcome (atPosition unsat) text at next
+ToldKind outcome text at (kind.Trivial next) = Behind outcome (atPosition trivial) text at next
+ToldKind outcome text at (kind.Split next) = Behind outcome readSplit text at next
+ToldKind outcome text at (kind.Footer next) = Behind outcome readFooter text at next
+ToldKind outcome text at kind.Unknown = outcome ≡ refused 10

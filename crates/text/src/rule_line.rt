@@ -1,0 +1,193 @@
+// Derivation lines: the heading, rule lines and the footer.
+use crate::byte::{Class, begins_at, peek, run_end};
+use crate::number::{Number, number_at};
+ghost use Prim.Native.Nat.{_≤_, _<_};
+ghost use lib.ListN.{length, drop};
+ghost use Rattle.text.specs.Reading.{refuse, oneOf, separated};
+ghost use Rattle.text.specs.Derivation.{readRanged, readPath, readSplit, readFooter, lineKinds, readLine, readVersion, readGrounder};
+ghost use Rattle.text.specs.memory.Numbers.{beyond};
+ghost use Rattle.text.specs.memory.RuleLines.{readFinalNames, ToldWord, ToldEnd, ToldRanged, ToldNumbers, ToldPosition, ToldLast, ToldKind, ToldLine};
+
+// The rules that change a formula, or a part of one.
+pub enum Rule {
+    Snand,
+    Snor,
+    Stn,
+    Epred,
+    Eprop,
+    Iq,
+}
+
+// A line: its formula's name, and for each list of numbers the place of the first and how many there are.
+pub enum LineRead {
+    Rewrite {
+        rule: Rule,
+        name: u32,
+        path: usize,
+        steps: usize,
+        next: usize,
+    },
+    Unsat {
+        name: u32,
+        path: usize,
+        steps: usize,
+        next: usize,
+    },
+    Trivial {
+        name: u32,
+        path: usize,
+        steps: usize,
+        next: usize,
+    },
+    Split {
+        name: u32,
+        path: usize,
+        steps: usize,
+        names: usize,
+        many: usize,
+        next: usize,
+    },
+    Footer {
+        names: usize,
+        many: usize,
+        next: usize,
+    },
+    Malformed,
+}
+
+// The place after something.
+pub enum Ended {
+    At(usize),
+    Malformed,
+}
+
+// A number of a range.
+enum RangedRead {
+    Value { number: u32, next: usize },
+    Malformed,
+}
+
+// Numbers with commas between them.
+enum NumbersRead {
+    Numbers { first: usize, many: usize, next: usize },
+    Malformed,
+}
+
+// A formula's name, and a path in it.
+enum PositionRead {
+    Position {
+        name: u32,
+        path: usize,
+        steps: usize,
+        next: usize,
+    },
+    Malformed,
+}
+
+// The kind of a line, and the place after the word that tells it.
+enum LineKind {
+    Rewrite { rule: Rule, next: usize },
+    Unsat { next: usize },
+    Trivial { next: usize },
+    Split { next: usize },
+    Footer { next: usize },
+    Unknown,
+}
+
+// The place after a word.
+fn word_end(text: &[u8], at: usize, word: &[u8]) -> Ended
+    requires { ⌜ at ≤ length (now text) ⌝ }
+    ensures { λ r. ⌜ ToldWord (now (word .entry)) (now (text .entry)) at r ⌝ }
+{
+    if begins_at(text, at, word) {
+        return Ended::At(at + word.len());
+    }
+    Ended::Malformed
+}
+
+// A number from `least` to `greatest`.
+fn ranged_at(text: &[u8], at: usize, least: u32, greatest: u32) -> RangedRead
+    requires { ⌜ (at ≤ length (now text)) × (greatest < beyond) ⌝ }
+    ensures { λ r. ⌜ ToldRanged least greatest (now (text .entry)) at r ⌝ }
+{
+    match number_at(text, at) {
+        Number::Value { next, value } => {
+            if value < least {
+                return RangedRead::Malformed;
+            }
+            if greatest < value {
+                return RangedRead::Malformed;
+            }
+            RangedRead::Value { number: value, next }
+        }
+        Number::Beyond { next: _ } => RangedRead::Malformed,
+        Number::Malformed => RangedRead::Malformed,
+    }
+}
+
+// One or more numbers from `least` to `greatest`, with commas between them.
+fn numbers_at(text: &[u8], at: usize, least: u32, greatest: u32) -> NumbersRead
+    requires { ⌜ (at ≤ length (now text)) × (greatest < beyond) ⌝ }
+    ensures { λ r. ⌜ ToldNumbers (separated 44 (readRanged least greatest)) (now (text .entry)) at r ⌝ }
+{
+    let mut i = at;
+    let mut many: usize = 0;
+    loop {
+        match ranged_at(text, i, least, greatest) {
+            RangedRead::Value { number: _, next } => {
+                many += 1;
+                if peek(text, next) != b',' {
+                    return NumbersRead::Numbers { first: at, many, next };
+                }
+                i = next + 1;
+            }
+            RangedRead::Malformed => {
+                return NumbersRead::Malformed;
+            }
+        }
+    }
+}
+
+// A path in brackets; nothing is the empty path.
+fn path_at(text: &[u8], at: usize) -> NumbersRead
+    requires { ⌜ at ≤ length (now text) ⌝ }
+    ensures { λ r. ⌜ ToldNumbers readPath (now (text .entry)) at r ⌝ }
+{
+    let Ended::At(start) = word_end(text, at, b"[") else {
+        return NumbersRead::Numbers { first: at, many: 0, next: at };
+    };
+    let NumbersRead::Numbers { first, many, next } = numbers_at(text, start, 0, 4095) else {
+        return NumbersRead::Malformed;
+    };
+    let Ended::At(end) = word_end(text, next, b"]") else {
+        return NumbersRead::Malformed;
+    };
+    NumbersRead::Numbers { first, many, next: end }
+}
+
+fn position_at(text: &[u8], at: usize) -> PositionRead
+    requires { ⌜ at ≤ length (now text) ⌝ }
+    ensures { λ r. ⌜ ToldPosition (now (text .entry)) at r ⌝ }
+{
+    let RangedRead::Value { number, next } = ranged_at(text, at, 1, 65535) else {
+        return PositionRead::Malformed;
+    };
+    let NumbersRead::Numbers { first, many, next: end } = path_at(text, next) else {
+        return PositionRead::Malformed;
+    };
+    PositionRead::Position { name: number, path: first, steps: many, next: end }
+}
+
+// A position that ends its line.
+fn last_position_at(text: &[u8], at: usize) -> PositionRead
+    requires { ⌜ at ≤ length (now text) ⌝ }
+    ensures { λ r. ⌜ ToldLast (now (text .entry)) at r ⌝ }
+{
+    let PositionRead::Position { name, path, steps, next } = position_at(text, at) else {
+        return PositionRead::Malformed;
+    };
+    let Ended::At(end) = word_end(text, next, b"\n") else {
+        return PositionRead::Malformed;
+    };
+    PositionRead::Position { name, path, steps, next: end }
+}
