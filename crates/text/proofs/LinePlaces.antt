@@ -12,7 +12,7 @@ use lib.ListN.{length, take, drop}
 use lib.Seq.{drop-drop}
 use Rattle.text.specs.Sizes.{greatestName, greatestPathNumber, grounderSize}
 use Rattle.text.specs.Bytes as bytes
-use Rattle.text.specs.Bytes.{Bytes, bytes, next, begins, isPrintable, span}
+use Rattle.text.specs.Bytes.{Bytes, bytes, begins, isPrintable, span}
 use Rattle.text.specs.Outcome.{Outcome, done, refused}
 use Rattle.text.specs.Reading.{Reader, refuse, give, word, token, _⇒_, oneOf, readNumber, separated}
 use Rattle.text.specs.Derivation.{Position, RuleLine, rewrite, unsat, trivial, splitc, Line, step, footer, inBounds, isGrounder}
@@ -20,10 +20,12 @@ use Rattle.text.specs.Derivation.{readRanged, readFormulaName, readPath,
 use Rattle.text.specs.Derivation.{versionText, readVersion, readGrounder}
 use Rattle.text.specs.memory.Found.{Found, Taken, Refused, WordFound}
 use Rattle.text.specs.memory.Numbers.{beyond, numberAt, numberEnd, numbersAt, NumberFound, SmallFound, LargeFound, ToldNumber}
-use Rattle.text.specs.memory.RuleLines.{readFinalNames, ToldWord, EndFound, ToldEnd, RangedFound, NumbersFound, PositionFound, LastFound, Behind, ToldKind, ToldLine}
+use Rattle.text.specs.memory.RuleLines.{readFinalNames, ToldWord, EndFound, ToldEnd, RangedFound, NumbersFound, ToldNumbers, PositionFound, LastFound, Behind, ToldKind, ToldLine}
 use Rattle.text.specs.declared.number.Number.the-variants as number
 use Rattle.text.specs.declared.rule_line.Ended.{Ended}
 use Rattle.text.specs.declared.rule_line.Ended.the-variants as ended
+use Rattle.text.specs.declared.rule_line.NumbersRead.{NumbersRead}
+use Rattle.text.specs.declared.rule_line.NumbersRead.the-variants as numbers-read
 use Rattle.text.specs.declared.rule_line.LineKind.{LineKind}
 use Rattle.text.specs.declared.rule_line.LineKind.the-variants as kind
 use Rattle.text.specs.declared.rule_line.LineRead.{LineRead}
@@ -183,6 +185,7 @@ module _ {text : Bytes} {at : ℕ} where
 
 -- Lines that end with their position.
 
+module _ {text : Bytes} {at : ℕ} where
   pub last-refused : Refused 10 readPosition text at → (make : Position → RuleLine) → Refused 10 (atPosition make) text at
   last-refused f make = refused-first _ f
 
@@ -201,6 +204,7 @@ module _ {text : Bytes} {at : ℕ} where
 
 -- A split.
 
+module _ {text : Bytes} {at : ℕ} where
   pub split-refused : Refused 10 readPosition text at → Refused 10 readSplit text at
   unfolding readSplit
   split-refused f = refused-first _ f
@@ -227,15 +231,16 @@ module _ {text : Bytes} {at : ℕ} where
         unfolding readSplit readFormulaName greatestName
         split-found closed = (
           found-taken
-          (found-then _ (read .found)
-          (found-then _ (found-word text next 10 (bytes " -> ") arrow)
-          (found-then _ (names .found) (found-then _ (found-word text last 10 (bytes "\n") closed) (found-give _ (closed .within))))))
-          (omega (arith, read .found .after, arrow .ends, names .found .after, closed .ends)),
+              (found-then _ (read .found)
+              (found-then _ (found-word text next 10 (bytes " -> ") arrow)
+              (found-then _ (names .found) (found-then _ (found-word text last 10 (bytes "\n") closed) (found-give _ (closed .within))))))
+              (omega (arith, read .found .after, arrow .ends, names .found .after, closed .ends)),
           (omega (arith, read .few, arrow .ends, names .found .after, closed .ends), omega (arith, names .few, closed .ends)),
         )
 
 -- The footer.
 
+module _ {text : Bytes} {at : ℕ} where
   pub names-none : {next : ℕ} → WordFound (bytes "-") text at next → NumbersFound readFinalNames text at next 0 next
   unfolding numbersAt
   names-none dash =
@@ -244,17 +249,20 @@ module _ {text : Bytes} {at : ℕ} where
         few = omega arith;
       }
 
-  module _ (no : begins (bytes "-") (drop at text) ≡ false) where
-    pub names-refused : Refused 10 (separated 44 (readRanged 1 65535)) text at → Refused 10 readFinalNames text at
-    unfolding readFormulaName greatestName
-    names-refused f = refused-later text at _ (oneOf-only text at _ _ [] (separated 44 readFormulaName) refl no) f
+pub names-told : (text : Bytes) (at : ℕ) → begins (bytes "-") (drop at text) ≡ false → (r : NumbersRead) → ToldNumbers (separated 44 (readRanged 1 65535)) text at r
+    → ToldNumbers readFinalNames text at r
+unfolding readFormulaName greatestName
+names-told text at e r told = pick r told
+  where
+    no-dash : readFinalNames (drop at text) ≡ separated 44 (readRanged 1 65535) (drop at text)
+    no-dash = oneOf-only text at _ _ [] (separated 44 readFormulaName) refl e
 
-    pub names-some : {first many next : ℕ} → NumbersFound (separated 44 (readRanged 1 65535)) text at first many next
-        → NumbersFound readFinalNames text at first many next
-    unfolding readFormulaName greatestName
-    names-some f =
-        record { found = found-later text at _ (oneOf-only text at _ _ [] (separated 44 readFormulaName) refl no) (omega arith) (f .found); few = f .few }
+    pick : (r : NumbersRead) → ToldNumbers (separated 44 (readRanged 1 65535)) text at r → ToldNumbers readFinalNames text at r
+    pick (numbers-read.Numbers first many next) told =
+        record { found = found-later text at _ no-dash (omega arith) (told .found); few = told .few }
+    pick numbers-read.Malformed told = refused-later text at _ no-dash told
 
+module _ {text : Bytes} {at : ℕ} where
   pub footer-refused : Refused 10 readFinalNames text at → Refused 10 readFooter text at
   unfolding readFooter
   footer-refused f = refused-first _ f
@@ -268,7 +276,7 @@ module _ {text : Bytes} {at : ℕ} where
     unfolding readFooter
     footer-found closed = (
       found-taken (found-then _ (names .found) (found-then _ (found-word text next 10 (bytes "\n") closed) (found-give _ (closed .within))))
-      (omega (arith, names .found .after, closed .ends)),
+          (omega (arith, names .found .after, closed .ends)),
       omega (arith, names .few, closed .ends),
     )
 

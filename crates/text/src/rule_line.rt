@@ -1,6 +1,10 @@
 // Derivation lines: the heading, rule lines and the footer.
-use crate::byte::{Class, begins_at, peek, run_end};
-use crate::number::{Number, number_at};
+use crate::byte::Class;
+use crate::byte::begins_at;
+use crate::byte::peek;
+use crate::byte::run_end;
+use crate::number::Number;
+use crate::number::number_at;
 ghost use Prim.Native.Nat.{_≤_, _<_};
 ghost use lib.ListN.{length, drop};
 ghost use Rattle.text.specs.Reading.{refuse, oneOf, separated};
@@ -69,7 +73,11 @@ enum RangedRead {
 
 // Numbers with commas between them.
 enum NumbersRead {
-    Numbers { first: usize, many: usize, next: usize },
+    Numbers {
+        first: usize,
+        many: usize,
+        next: usize,
+    },
     Malformed,
 }
 
@@ -118,7 +126,10 @@ fn ranged_at(text: &[u8], at: usize, least: u32, greatest: u32) -> RangedRead
             if greatest < value {
                 return RangedRead::Malformed;
             }
-            RangedRead::Value { number: value, next }
+            RangedRead::Value {
+                number: value,
+                next,
+            }
         }
         Number::Beyond { next: _ } => RangedRead::Malformed,
         Number::Malformed => RangedRead::Malformed,
@@ -137,7 +148,11 @@ fn numbers_at(text: &[u8], at: usize, least: u32, greatest: u32) -> NumbersRead
             RangedRead::Value { number: _, next } => {
                 many += 1;
                 if peek(text, next) != b',' {
-                    return NumbersRead::Numbers { first: at, many, next };
+                    return NumbersRead::Numbers {
+                        first: at,
+                        many,
+                        next,
+                    };
                 }
                 i = next + 1;
             }
@@ -154,7 +169,11 @@ fn path_at(text: &[u8], at: usize) -> NumbersRead
     ensures { λ r. ⌜ ToldNumbers readPath (now (text .entry)) at r ⌝ }
 {
     let Ended::At(start) = word_end(text, at, b"[") else {
-        return NumbersRead::Numbers { first: at, many: 0, next: at };
+        return NumbersRead::Numbers {
+            first: at,
+            many: 0,
+            next: at,
+        };
     };
     let NumbersRead::Numbers { first, many, next } = numbers_at(text, start, 0, 4095) else {
         return NumbersRead::Malformed;
@@ -162,7 +181,11 @@ fn path_at(text: &[u8], at: usize) -> NumbersRead
     let Ended::At(end) = word_end(text, next, b"]") else {
         return NumbersRead::Malformed;
     };
-    NumbersRead::Numbers { first, many, next: end }
+    NumbersRead::Numbers {
+        first,
+        many,
+        next: end,
+    }
 }
 
 fn position_at(text: &[u8], at: usize) -> PositionRead
@@ -172,10 +195,20 @@ fn position_at(text: &[u8], at: usize) -> PositionRead
     let RangedRead::Value { number, next } = ranged_at(text, at, 1, 65535) else {
         return PositionRead::Malformed;
     };
-    let NumbersRead::Numbers { first, many, next: end } = path_at(text, next) else {
+    let NumbersRead::Numbers {
+        first,
+        many,
+        next: end,
+    } = path_at(text, next)
+    else {
         return PositionRead::Malformed;
     };
-    PositionRead::Position { name: number, path: first, steps: many, next: end }
+    PositionRead::Position {
+        name: number,
+        path: first,
+        steps: many,
+        next: end,
+    }
 }
 
 // A position that ends its line.
@@ -183,11 +216,119 @@ fn last_position_at(text: &[u8], at: usize) -> PositionRead
     requires { ⌜ at ≤ length (now text) ⌝ }
     ensures { λ r. ⌜ ToldLast (now (text .entry)) at r ⌝ }
 {
-    let PositionRead::Position { name, path, steps, next } = position_at(text, at) else {
+    let PositionRead::Position {
+        name,
+        path,
+        steps,
+        next,
+    } = position_at(text, at)
+    else {
         return PositionRead::Malformed;
     };
     let Ended::At(end) = word_end(text, next, b"\n") else {
         return PositionRead::Malformed;
     };
-    PositionRead::Position { name, path, steps, next: end }
+    PositionRead::Position {
+        name,
+        path,
+        steps,
+        next: end,
+    }
+}
+
+// What follows the word of a split.
+fn split_at(text: &[u8], at: usize) -> LineRead
+    requires { ⌜ at ≤ length (now text) ⌝ }
+    ensures { λ r. ⌜ ToldLine readSplit (now (text .entry)) at r ⌝ }
+{
+    let PositionRead::Position {
+        name,
+        path,
+        steps,
+        next,
+    } = position_at(text, at)
+    else {
+        return LineRead::Malformed;
+    };
+    let Ended::At(start) = word_end(text, next, b" -> ") else {
+        return LineRead::Malformed;
+    };
+    let NumbersRead::Numbers {
+        first,
+        many,
+        next: last,
+    } = numbers_at(text, start, 1, 65535)
+    else {
+        return LineRead::Malformed;
+    };
+    let Ended::At(end) = word_end(text, last, b"\n") else {
+        return LineRead::Malformed;
+    };
+    LineRead::Split {
+        name,
+        path,
+        steps,
+        names: first,
+        many,
+        next: end,
+    }
+}
+
+// The footer's names; a dash is none.
+fn final_names_at(text: &[u8], at: usize) -> NumbersRead
+    requires { ⌜ at ≤ length (now text) ⌝ }
+    ensures { λ r. ⌜ ToldNumbers readFinalNames (now (text .entry)) at r ⌝ }
+{
+    if let Ended::At(next) = word_end(text, at, b"-") {
+        return NumbersRead::Numbers {
+            first: next,
+            many: 0,
+            next,
+        };
+    }
+    numbers_at(text, at, 1, 65535)
+}
+
+// What follows the footer's word.
+fn footer_at(text: &[u8], at: usize) -> LineRead
+    requires { ⌜ at ≤ length (now text) ⌝ }
+    ensures { λ r. ⌜ ToldLine readFooter (now (text .entry)) at r ⌝ }
+{
+    let NumbersRead::Numbers { first, many, next } = final_names_at(text, at) else {
+        return LineRead::Malformed;
+    };
+    let Ended::At(end) = word_end(text, next, b"\n") else {
+        return LineRead::Malformed;
+    };
+    LineRead::Footer {
+        names: first,
+        many,
+        next: end,
+    }
+}
+
+// The place after the heading's first line.
+pub fn version_end(text: &[u8], at: usize) -> Ended
+    requires { ⌜ at ≤ length (now text) ⌝ }
+    ensures { λ r. ⌜ ToldEnd readVersion (now (text .entry)) at r ⌝ }
+{
+    word_end(text, at, b"version=1\n")
+}
+
+// The place after the heading's second line.
+pub fn grounder_end(text: &[u8], at: usize) -> Ended
+    requires { ⌜ at ≤ length (now text) ⌝ }
+    ensures { λ r. ⌜ ToldEnd readGrounder (now (text .entry)) at r ⌝ }
+{
+    let Ended::At(start) = word_end(text, at, b"grounder=") else {
+        return Ended::Malformed;
+    };
+    let end = run_end(text, start, Class::Printable);
+    if end - start < 1 {
+        return Ended::Malformed;
+    }
+    if 31 < end - start {
+        return Ended::Malformed;
+    }
+    word_end(text, end, b"\n")
 }

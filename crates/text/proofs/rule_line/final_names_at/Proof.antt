@@ -1,0 +1,42 @@
+-- `rule_line::final_names_at` reads a dash, or names.
+-- Assumes nothing.
+use borrow.Author.Needs.{needs}
+use mathlib.Core.Path.{_≡_, subst}
+use Rattle.text.specs.Bytes.{bytes}
+use Rattle.text.specs.memory.RuleLines.{ToldWord}
+use Rattle.text.proofs.LinePlaces.{names-none, names-told}
+use Rattle.text.proofs.rule_line.final_names_at.Statement.{statement}
+use Rattle.text.proofs.rule_line.final_names_at.Tie as tie
+
+slice-aggregate-word-end : tie.Need-slice-aggregate-word-end
+slice-aggregate-word-end c = search needs
+
+word-end-requires : tie.Need-word-end-requires
+word-end-requires c κs = search needs
+
+enum-known-next : tie.Need-enum-known-next
+enum-known-next c = search needs
+
+returns : tie.Need-returns
+returns c = names-none (subst (ToldWord (bytes "-") (c .before .before .before .before .before .before .args .text .now) (c .before .before .before .before .before .before .args .at)) (c .before .next .given .1) (c .before .before .before .word-end .ensures))
+
+enum-told : tie.Need-enum-told
+enum-told c = search needs
+
+numbers-at-requires : tie.Need-numbers-at-requires
+numbers-at-requires c κs = search needs
+
+returns-2 : tie.Need-returns-2
+returns-2 c = names-told (c .before .before .before .before .before .before .args .text .now) (c .before .before .before .before .before .before .args .at) (subst (ToldWord (bytes "-") (c .before .before .before .before .before .before .args .text .now) (c .before .before .before .before .before .before .args .at)) (c .before .enum-told .given .1) (c .before .before .before .word-end .ensures)) (c .numbers-at .result) (c .numbers-at .ensures)
+
+pub final-names-at-spec : {M : Type 1} → statement M
+final-names-at-spec =
+    tie.close
+    (tie.spec
+    slice-aggregate-word-end
+    word-end-requires
+    enum-known-next
+    returns
+    enum-told
+    numbers-at-requires
+    returns-2)

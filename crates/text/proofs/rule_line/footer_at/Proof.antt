@@ -1,0 +1,58 @@
+-- `rule_line::footer_at` reads the footer's names and the end of the line.
+-- Assumes nothing.
+use borrow.Author.Needs.{needs}
+use mathlib.Core.Path.{_≡_, subst}
+use Rattle.text.specs.Bytes.{bytes}
+use Rattle.text.specs.memory.RuleLines.{readFinalNames, ToldWord, ToldNumbers}
+use Rattle.text.proofs.LinePlaces.{footer-refused, footer-open, footer-found}
+use Rattle.text.proofs.rule_line.footer_at.Statement.{statement}
+use Rattle.text.proofs.rule_line.footer_at.Tie as tie
+
+final-names-at-requires : tie.Need-final-names-at-requires
+final-names-at-requires c κs = search needs
+
+enum-known-first : tie.Need-enum-known-first
+enum-known-first c = search needs
+
+enum-told : tie.Need-enum-told
+enum-told c = search needs
+
+returns : tie.Need-returns
+returns c = footer-refused (subst (ToldNumbers readFinalNames (c .before .before .before .before .args .text .now) (c .before .before .before .before .args .at)) (c .enum-told .given .1) (c .before .before .final-names-at .ensures))
+
+slice-aggregate-word-end : tie.Need-slice-aggregate-word-end
+slice-aggregate-word-end c = search needs
+
+word-end-requires : tie.Need-word-end-requires
+word-end-requires c κs = let names = (subst (ToldNumbers readFinalNames (c .before .before .before .before .before .before .args .text .now) (c .before .before .before .before .before .before .args .at)) (c .before .before .first .given .1) (c .before .before .before .before .final-names-at .ensures)) in names .found .within
+
+enum-known-end : tie.Need-enum-known-end
+enum-known-end c = search needs
+
+enum-told-2 : tie.Need-enum-told-2
+enum-told-2 c = search needs
+
+returns-2 : tie.Need-returns-2
+returns-2 c =
+    footer-open (subst (ToldNumbers readFinalNames (c .before .before .before .before .before .before .before .before .before .args .text .now) (c .before .before .before .before .before .before .before .before .before .args .at)) (c .before .before .before .before .before .first .given .1) (c .before .before .before .before .before .before .before .final-names-at .ensures))
+    (subst (ToldWord (bytes "\n") (c .before .before .before .before .before .before .before .before .before .args .text .now) (c .before .before .before .before .before .first .given .0 .1 .1 .0)) (c .enum-told2 .given .1) (c .before .before .word-end .ensures))
+
+returns-3 : tie.Need-returns-3
+returns-3 c =
+    footer-found (subst (ToldNumbers readFinalNames (c .before .before .before .before .before .before .before .before .before .before .args .text .now) (c .before .before .before .before .before .before .before .before .before .before .args .at)) (c .before .before .before .before .before .before .first .given .1) (c .before .before .before .before .before .before .before .before .final-names-at .ensures))
+    (subst (ToldWord (bytes "\n") (c .before .before .before .before .before .before .before .before .before .before .args .text .now) (c .before .before .before .before .before .before .first .given .0 .1 .1 .0)) (c .before .end .given .1) (c .before .before .before .word-end .ensures))
+
+pub footer-at-spec : {M : Type 1} → statement M
+footer-at-spec =
+    tie.close
+    (tie.spec
+    final-names-at-requires
+    enum-known-first
+    enum-told
+    returns
+    slice-aggregate-word-end
+    word-end-requires
+    enum-known-end
+    enum-told-2
+    returns-2
+    returns-3)

@@ -1,0 +1,106 @@
+-- `rule_line::split_at` reads a position, the arrow, the new names and the end of the line.
+-- Assumes nothing.
+use borrow.Author.Needs.{needs}
+use mathlib.Core.Path.{_≡_, subst}
+use native.Mathlib.Omega.{arith}
+use Rattle.text.specs.Bytes.{bytes}
+use Rattle.text.specs.Reading.{separated}
+use Rattle.text.specs.Derivation.{readRanged}
+use Rattle.text.specs.memory.RuleLines.{ToldWord, ToldNumbers, ToldPosition}
+use Rattle.text.proofs.LinePlaces.{split-refused, split-unmarked, split-unnamed, split-open, split-found}
+use Rattle.text.proofs.rule_line.split_at.Statement.{statement}
+use Rattle.text.proofs.rule_line.split_at.Tie as tie
+
+position-at-requires : tie.Need-position-at-requires
+position-at-requires c κs = search needs
+
+enum-known-name : tie.Need-enum-known-name
+enum-known-name c = search needs
+
+enum-told : tie.Need-enum-told
+enum-told c = search needs
+
+returns : tie.Need-returns
+returns c = split-refused (subst (ToldPosition (c .before .before .before .before .args .text .now) (c .before .before .before .before .args .at)) (c .enum-told .given .1) (c .before .before .position-at .ensures))
+
+slice-aggregate-word-end : tie.Need-slice-aggregate-word-end
+slice-aggregate-word-end c = search needs
+
+word-end-requires : tie.Need-word-end-requires
+word-end-requires c κs = let read = (subst (ToldPosition (c .before .before .before .before .before .before .args .text .now) (c .before .before .before .before .before .before .args .at)) (c .before .before .name .given .1) (c .before .before .before .before .position-at .ensures)) in read .found .within
+
+enum-known-start : tie.Need-enum-known-start
+enum-known-start c = search needs
+
+enum-told-2 : tie.Need-enum-told-2
+enum-told-2 c = search needs
+
+returns-2 : tie.Need-returns-2
+returns-2 c =
+    split-unmarked (subst (ToldPosition (c .before .before .before .before .before .before .before .before .before .args .text .now) (c .before .before .before .before .before .before .before .before .before .args .at)) (c .before .before .before .before .before .name .given .1) (c .before .before .before .before .before .before .before .position-at .ensures))
+    (subst (ToldWord (bytes " -> ") (c .before .before .before .before .before .before .before .before .before .args .text .now) (c .before .before .before .before .before .name .given .0 .1 .1 .1 .0)) (c .enum-told2 .given .1) (c .before .before .word-end .ensures))
+
+numbers-at-requires : tie.Need-numbers-at-requires
+numbers-at-requires c κs = let arrow = (subst (ToldWord (bytes " -> ") (c .before .before .before .before .before .before .before .before .before .before .args .text .now) (c .before .before .before .before .before .before .name .given .0 .1 .1 .1 .0)) (c .before .start .given .1) (c .before .before .before .word-end .ensures)) in (arrow .within, omega arith)
+
+enum-known-first : tie.Need-enum-known-first
+enum-known-first c = search needs
+
+enum-told-3 : tie.Need-enum-told-3
+enum-told-3 c = search needs
+
+returns-3 : tie.Need-returns-3
+returns-3 c =
+    split-unnamed (subst (ToldPosition (c .before .before .before .before .before .before .before .before .before .before .before .before .before .args .text .now) (c .before .before .before .before .before .before .before .before .before .before .before .before .before .args .at)) (c .before .before .before .before .before .before .before .before .before .name .given .1) (c .before .before .before .before .before .before .before .before .before .before .before .position-at .ensures))
+    (subst (ToldWord (bytes " -> ") (c .before .before .before .before .before .before .before .before .before .before .before .before .before .args .text .now) (c .before .before .before .before .before .before .before .before .before .name .given .0 .1 .1 .1 .0)) (c .before .before .before .before .start .given .1) (c .before .before .before .before .before .before .word-end .ensures))
+    (subst (ToldNumbers (separated 44 (readRanged 1 65535)) (c .before .before .before .before .before .before .before .before .before .before .before .before .before .args .text .now) (c .before .before .before .before .start .given .0 .0)) (c .enum-told3 .given .1) (c .before .before .numbers-at .ensures))
+
+slice-aggregate-word-end-2 : tie.Need-slice-aggregate-word-end-2
+slice-aggregate-word-end-2 c = search needs
+
+word-end-requires-2 : tie.Need-word-end-requires-2
+word-end-requires-2 c κs = let names = (subst (ToldNumbers (separated 44 (readRanged 1 65535)) (c .before .before .before .before .before .before .before .before .before .before .before .before .before .before .before .args .text .now) (c .before .before .before .before .before .before .start .given .0 .0)) (c .before .before .first .given .1) (c .before .before .before .before .numbers-at .ensures)) in names .found .within
+
+enum-known-end : tie.Need-enum-known-end
+enum-known-end c = search needs
+
+enum-told-4 : tie.Need-enum-told-4
+enum-told-4 c = search needs
+
+returns-4 : tie.Need-returns-4
+returns-4 c =
+    split-open (subst (ToldPosition (c .before .before .before .before .before .before .before .before .before .before .before .before .before .before .before .before .before .before .args .text .now) (c .before .before .before .before .before .before .before .before .before .before .before .before .before .before .before .before .before .before .args .at)) (c .before .before .before .before .before .before .before .before .before .before .before .before .before .before .name .given .1) (c .before .before .before .before .before .before .before .before .before .before .before .before .before .before .before .before .position-at .ensures))
+    (subst (ToldWord (bytes " -> ") (c .before .before .before .before .before .before .before .before .before .before .before .before .before .before .before .before .before .before .args .text .now) (c .before .before .before .before .before .before .before .before .before .before .before .before .before .before .name .given .0 .1 .1 .1 .0)) (c .before .before .before .before .before .before .before .before .before .start .given .1) (c .before .before .before .before .before .before .before .before .before .before .before .word-end .ensures))
+    (subst (ToldNumbers (separated 44 (readRanged 1 65535)) (c .before .before .before .before .before .before .before .before .before .before .before .before .before .before .before .before .before .before .args .text .now) (c .before .before .before .before .before .before .before .before .before .start .given .0 .0)) (c .before .before .before .before .before .first .given .1) (c .before .before .before .before .before .before .before .numbers-at .ensures))
+    (subst (ToldWord (bytes "\n") (c .before .before .before .before .before .before .before .before .before .before .before .before .before .before .before .before .before .before .args .text .now) (c .before .before .before .before .before .first .given .0 .1 .1 .0)) (c .enum-told4 .given .1) (c .before .before .word-end2 .ensures))
+
+returns-5 : tie.Need-returns-5
+returns-5 c =
+    split-found (subst (ToldPosition (c .before .before .before .before .before .before .before .before .before .before .before .before .before .before .before .before .before .before .before .args .text .now) (c .before .before .before .before .before .before .before .before .before .before .before .before .before .before .before .before .before .before .before .args .at)) (c .before .before .before .before .before .before .before .before .before .before .before .before .before .before .before .name .given .1) (c .before .before .before .before .before .before .before .before .before .before .before .before .before .before .before .before .before .position-at .ensures))
+    (subst (ToldWord (bytes " -> ") (c .before .before .before .before .before .before .before .before .before .before .before .before .before .before .before .before .before .before .before .args .text .now) (c .before .before .before .before .before .before .before .before .before .before .before .before .before .before .before .name .given .0 .1 .1 .1 .0)) (c .before .before .before .before .before .before .before .before .before .before .start .given .1) (c .before .before .before .before .before .before .before .before .before .before .before .before .word-end .ensures))
+    (subst (ToldNumbers (separated 44 (readRanged 1 65535)) (c .before .before .before .before .before .before .before .before .before .before .before .before .before .before .before .before .before .before .before .args .text .now) (c .before .before .before .before .before .before .before .before .before .before .start .given .0 .0)) (c .before .before .before .before .before .before .first .given .1) (c .before .before .before .before .before .before .before .before .numbers-at .ensures))
+    (subst (ToldWord (bytes "\n") (c .before .before .before .before .before .before .before .before .before .before .before .before .before .before .before .before .before .before .before .args .text .now) (c .before .before .before .before .before .before .first .given .0 .1 .1 .0)) (c .before .end .given .1) (c .before .before .before .word-end2 .ensures))
+
+pub split-at-spec : {M : Type 1} → statement M
+split-at-spec =
+    tie.close
+    (tie.spec
+    position-at-requires
+    enum-known-name
+    enum-told
+    returns
+    slice-aggregate-word-end
+    word-end-requires
+    enum-known-start
+    enum-told-2
+    returns-2
+    numbers-at-requires
+    enum-known-first
+    enum-told-3
+    returns-3
+    slice-aggregate-word-end-2
+    word-end-requires-2
+    enum-known-end
+    enum-told-4
+    returns-4
+    returns-5)
