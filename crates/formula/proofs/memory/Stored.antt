@@ -16,78 +16,56 @@ use Rattle.formula.specs.memory.Words.{partTotal, termWord, termWords, w
 use Rattle.formula.specs.memory.Stored.{sideOf, connectiveOf, afterFirst, termOf, termsAt, partsBy, formulaBy, formulaAt}
 use Rattle.formula.specs.declared.word.Kind.{Kind}
 use Rattle.formula.specs.declared.word.Kind.the-variants as kind
+use Rattle.formula.proofs.memory.Naming.{Naming, wordsIn, allWordsIn, termWordsIn, formulaIn, TermStorable, TermsStorable, Storable, AllStorable}
 use Rattle.formula.proofs.memory.Words.{isEvery, signOf, kind-truth, kind-equal, kind-connective, kind-quantifier, kind-atom, afterFirst-words}
 
--- a name's index is one of so many, and the name at that index is the name
-pub record Listed (index : Name → ℕ) (name : ℕ → Name) (count : ℕ) (x : Name) : Type 0 where
-  pub within : index x < count
-  pub named : name (index x) ≡ x
-
--- what memory can hold: names in the tables, elements of a byte, at most three terms
-module _ (variableIndex predicateIndex : Name → ℕ) (variableName predicateName : ℕ → Name) where
-  abbrev pub TermStorable : Term → Type 0
-  TermStorable (element v) = v < 256
-  TermStorable (variable x) = Listed variableIndex variableName 64 x
-
-  abbrev pub TermsStorable : Terms → Type 0
-  TermsStorable noTerms = Unit {0}
-  TermsStorable (term t ts) = TermStorable t × TermsStorable ts
-
-  abbrev mutual
-    pub Storable : Formula → Type 0
-    Storable (truth b) = Unit {0}
-    Storable (atom p ts) = Listed predicateIndex predicateName 32 p × (termCount ts < 4) × TermsStorable ts
-    Storable (equal s t) = TermStorable s × TermStorable t
-    Storable (connective o fs) = AllStorable fs
-    Storable (quantifier c x g f) = Listed variableIndex variableName 64 x × Storable g × Storable f
-
-    pub AllStorable : Formulas → Type 0
-    AllStorable noParts = Unit {0}
-    AllStorable (part f fs) = Storable f × AllStorable fs
-
-  termOf-termWord : (t : Term) → TermStorable t → termOf variableName (termWord variableIndex t) ≡ t
+module _ (N : Naming) where
+  termOf-termWord : (t : Term) → TermStorable N t → termOf (N .variableName) (termWord (N .variableIndex) t) ≡ t
   termOf-termWord (element v) h =
       let tag : (v * 16 + 12) % 16 ≡ 12 = omega arith in
       let payload : (v * 16 + 12) / 16 ≡ v = omega arith in
       let low : v % 256 ≡ v = omega arith in
       rw (eq-eqb ((v * 16 + 12) % 16) 12 tag, payload, low)
   termOf-termWord (variable x) h =
-      let i = variableIndex x in
+      let i = N .variableIndex x in
       let tag : ((i * 16 + 13) % 16 ≡ 12) → ⊥ = λ e. omega arith in
       let payload : (i * 16 + 13) / 16 ≡ i = omega arith in
       let low : i % 64 ≡ i = omega (arith, h .within) in
       rw (ne-eqb ((i * 16 + 13) % 16) 12 tag, payload, low) (ap variable (h .named))
 
-  termsAt-termWords : (ts : Terms) (s : List ℕ) → TermsStorable ts → termsAt variableName (termCount ts) (termWords variableIndex ts ++ s) ≡ ts
+  termsAt-termWords : (ts : Terms) (s : List ℕ) → TermsStorable N ts → termsAt (N .variableName) (termCount ts) (termWordsIn N ts ++ s) ≡ ts
   unfolding termsAt
   termsAt-termWords noTerms s h = refl
   termsAt-termWords (term t ts) s h = ap₂ term (termOf-termWord t (h .0)) (termsAt-termWords ts s (h .1))
 
   -- One level.
 
+  abbrev ofKind : (List ℕ → Formula) → Kind → List ℕ → Formula
+  ofKind read k s = formulaBy (N .variableName) (N .predicateName) read k s
+
   formulaAt-some : (levels : ℕ) (w : ℕ) (s : List ℕ) (k : Kind) → 0 < levels → kindOf w ≡ k
-      → formulaAt variableName predicateName levels (w ∷ s) ≡ formulaBy variableName predicateName (formulaAt variableName predicateName (levels - 1)) k s
+      → formulaIn N levels (w ∷ s) ≡ ofKind (formulaIn N (levels - 1)) k s
   unfolding formulaAt
   formulaAt-some zero w s k h e = absurd (omega arith)
   formulaAt-some (suc levels) w s k h e = rw (e, sub-one (suc levels))
 
   module _ (read : List ℕ → Formula) where
-    by-truth : (b : Bool) (s : List ℕ) → formulaBy variableName predicateName read (kind.Truth b) s ≡ truth b
+    by-truth : (b : Bool) (s : List ℕ) → ofKind read (kind.Truth b) s ≡ truth b
     unfolding formulaBy
     by-truth b s = refl
 
-    by-equal : (a b : ℕ) (s : List ℕ) → formulaBy variableName predicateName read kind.Equality (a ∷ b ∷ s) ≡ equal (termOf variableName a) (termOf variableName b)
+    by-equal : (a b : ℕ) (s : List ℕ) → ofKind read kind.Equality (a ∷ b ∷ s) ≡ equal (termOf (N .variableName) a) (termOf (N .variableName) b)
     unfolding formulaBy
     by-equal a b s = refl
 
-    by-atom : (p n : ℕ) (s : List ℕ) → p < 32 → n < 4 → formulaBy variableName predicateName read (kind.Atom p n) s ≡ atom (predicateName p) (termsAt variableName n s)
+    by-atom : (p n : ℕ) (s : List ℕ) → p < 32 → n < 4 → ofKind read (kind.Atom p n) s ≡ atom (N .predicateName p) (termsAt (N .variableName) n s)
     unfolding formulaBy
     by-atom p n s h k =
         let a : p % 32 ≡ p = omega arith in
         let b : n % 4 ≡ n = omega arith in
         rw (a, b)
 
-    by-connective : (o : Connective) (n : ℕ) (s : List ℕ) → formulaBy variableName predicateName read (kind.Connective (signOf o) n) s ≡ connective o (partsBy read n s)
+    by-connective : (o : Connective) (n : ℕ) (s : List ℕ) → ofKind read (kind.Connective (signOf o) n) s ≡ connective o (partsBy read n s)
     unfolding formulaBy
     by-connective negation n s = refl
     by-connective implies n s = refl
@@ -97,7 +75,7 @@ module _ (variableIndex predicateIndex : Name → ℕ) (variableName predicateNa
     by-connective (junction any) n s = refl
 
     by-quantifier : (c : Side) (x : ℕ) (s : List ℕ) → x < 64
-        → formulaBy variableName predicateName read (kind.Quantifier (isEvery c) x) s ≡ quantifier c (variableName x) (read s) (read (afterFirst s))
+        → ofKind read (kind.Quantifier (isEvery c) x) s ≡ quantifier c (N .variableName x) (read s) (read (afterFirst s))
     unfolding formulaBy
     by-quantifier all x s h = let e : x % 64 ≡ x = omega arith in rw e
     by-quantifier any x s h = let e : x % 64 ≡ x = omega arith in rw e
@@ -110,38 +88,37 @@ module _ (variableIndex predicateIndex : Name → ℕ) (variableName predicateNa
     unfolding partsBy
     parts-none s = refl
 
-  module _ (small : (p : Name) → predicateIndex p < 256) where
-    mutual
-      unfolding words depth
+  mutual
+    unfolding words depth
 
-      pub formulaAt-words : (f : Formula) (levels : ℕ) (s : List ℕ) → Storable f → depth f ≤ levels
-          → formulaAt variableName predicateName levels (words variableIndex predicateIndex f ++ s) ≡ f
-      formulaAt-words (truth b) levels s h l = formulaAt-some levels _ s _ l (kind-truth b) ∙ by-truth _ b s
-      formulaAt-words (atom p ts) levels s h l =
-          formulaAt-some levels _ _ _ l (kind-atom (predicateIndex p) (termCount ts) (small p))
-          ∙ by-atom _ (predicateIndex p) (termCount ts) _ (h .0 .within) (h .1)
-          ∙ ap₂ atom (h .0 .named) (termsAt-termWords ts s (h .2))
-      formulaAt-words (equal t u) levels s h l =
-          formulaAt-some levels 11 _ _ l kind-equal ∙ by-equal _ _ _ s ∙ ap₂ equal (termOf-termWord t (h .0)) (termOf-termWord u (h .1))
-      formulaAt-words (connective o fs) levels s h l =
-          formulaAt-some levels _ _ _ (omega arith) (kind-connective o (partTotal fs))
-          ∙ by-connective _ o (partTotal fs) _ ∙ ap (connective o) (parts-words fs (levels - 1) s h (omega arith))
-      formulaAt-words (quantifier c x g f) levels s h l =
-          formulaAt-some levels _ _ _ (omega arith) (kind-quantifier c (variableIndex x))
-          ∙ by-quantifier _ c (variableIndex x) _ (h .0 .within)
-          ∙ rw (
-            append-assoc,
-            afterFirst-words variableIndex predicateIndex small g,
-            formulaAt-words g (levels - 1) (words variableIndex predicateIndex f ++ s) (h .1) (omega arith),
-            formulaAt-words f (levels - 1) s (h .2) (omega arith),
-            h .0 .named,
-          )
+    pub formulaAt-words : (f : Formula) (levels : ℕ) (s : List ℕ) → Storable N f → depth f ≤ levels
+        → formulaIn N levels (wordsIn N f ++ s) ≡ f
+    formulaAt-words (truth b) levels s h l = formulaAt-some levels _ s _ l (kind-truth b) ∙ by-truth _ b s
+    formulaAt-words (atom p ts) levels s h l =
+        formulaAt-some levels _ _ _ l (kind-atom (N .predicateIndex p) (termCount ts) (N .small p))
+        ∙ by-atom _ (N .predicateIndex p) (termCount ts) _ (h .0 .within) (h .1)
+        ∙ ap₂ atom (h .0 .named) (termsAt-termWords ts s (h .2))
+    formulaAt-words (equal t u) levels s h l =
+        formulaAt-some levels 11 _ _ l kind-equal ∙ by-equal _ _ _ s ∙ ap₂ equal (termOf-termWord t (h .0)) (termOf-termWord u (h .1))
+    formulaAt-words (connective o fs) levels s h l =
+        formulaAt-some levels _ _ _ (omega arith) (kind-connective o (partTotal fs))
+        ∙ by-connective _ o (partTotal fs) _ ∙ ap (connective o) (parts-words fs (levels - 1) s h (omega arith))
+    formulaAt-words (quantifier c x g f) levels s h l =
+        formulaAt-some levels _ _ _ (omega arith) (kind-quantifier c (N .variableIndex x))
+        ∙ by-quantifier _ c (N .variableIndex x) _ (h .0 .within)
+        ∙ rw (
+          append-assoc,
+          afterFirst-words N g,
+          formulaAt-words g (levels - 1) (wordsIn N f ++ s) (h .1) (omega arith),
+          formulaAt-words f (levels - 1) s (h .2) (omega arith),
+          h .0 .named,
+        )
 
-      pub parts-words : (fs : Formulas) (levels : ℕ) (s : List ℕ) → AllStorable fs → depths fs ≤ levels
-          → partsBy (formulaAt variableName predicateName levels) (partTotal fs) (allWords variableIndex predicateIndex fs ++ s) ≡ fs
-      parts-words noParts levels s h l = parts-none _ s
-      parts-words (part f fs) levels s h l =
-          rw append-assoc
-          (parts-part _ (partTotal fs) (words variableIndex predicateIndex f ++ (allWords variableIndex predicateIndex fs ++ s))
-          ∙ rw (afterFirst-words variableIndex predicateIndex small f)
-          (ap₂ part (formulaAt-words f levels (allWords variableIndex predicateIndex fs ++ s) (h .0) (omega arith)) (parts-words fs levels s (h .1) (omega arith))))
+    pub parts-words : (fs : Formulas) (levels : ℕ) (s : List ℕ) → AllStorable N fs → depths fs ≤ levels
+        → partsBy (formulaIn N levels) (partTotal fs) (allWordsIn N fs ++ s) ≡ fs
+    parts-words noParts levels s h l = parts-none _ s
+    parts-words (part f fs) levels s h l =
+        rw append-assoc
+        (parts-part _ (partTotal fs) (wordsIn N f ++ (allWordsIn N fs ++ s))
+        ∙ rw (afterFirst-words N f)
+        (ap₂ part (formulaAt-words f levels (allWordsIn N fs ++ s) (h .0) (omega arith)) (parts-words fs levels s (h .1) (omega arith))))

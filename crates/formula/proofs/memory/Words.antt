@@ -20,6 +20,7 @@ use Rattle.formula.specs.declared.word.Sign.the-variants as sign
 use Rattle.formula.specs.declared.word.Kind.{Kind}
 use Rattle.formula.specs.declared.word.Kind.the-variants as kind
 use Rattle.formula.proofs.memory.Kinds.{skip-none}
+use Rattle.formula.proofs.memory.Naming.{Naming, wordsIn, allWordsIn, termWordsIn}
 
 -- The kind of each word.
 
@@ -81,18 +82,18 @@ length-termWords : (variableIndex : Name → ℕ) (ts : Terms) → length (termW
 length-termWords variableIndex noTerms = refl
 length-termWords variableIndex (term t ts) = ap suc (length-termWords variableIndex ts)
 
-module _ (variableIndex predicateIndex : Name → ℕ) where
+module _ (N : Naming) where
   mutual
     unfolding words size
 
-    pub length-words : (f : Formula) → length (words variableIndex predicateIndex f) ≡ size f
+    pub length-words : (f : Formula) → length (wordsIn N f) ≡ size f
     length-words (truth b) = refl
-    length-words (atom p ts) = ap suc (length-termWords variableIndex ts)
+    length-words (atom p ts) = ap suc (length-termWords (N .variableIndex) ts)
     length-words (equal s t) = refl
     length-words (connective o fs) = ap suc (length-allWords fs)
     length-words (quantifier c x g f) = rw (length-append, length-words g, length-words f)
 
-    pub length-allWords : (fs : Formulas) → length (allWords variableIndex predicateIndex fs) ≡ sizes fs
+    pub length-allWords : (fs : Formulas) → length (allWordsIn N fs) ≡ sizes fs
     length-allWords noParts = refl
     length-allWords (part f fs) = rw (length-append, length-words f, length-allWords fs)
 
@@ -102,45 +103,41 @@ skip-word : (w : ℕ) (k : Kind) (s : List ℕ) (n : ℕ) → kindOf w ≡ k →
 unfolding skip
 skip-word w k s n e = rw e
 
-skip-termWords : (variableIndex : Name → ℕ) (ts : Terms) (n : ℕ) (s : List ℕ)
-    → skip (termWords variableIndex ts ++ s) (n + termCount ts) ≡ termCount ts + skip s n
-skip-termWords variableIndex noTerms n s = rw add-zero (omega arith)
-skip-termWords variableIndex (term t ts) n s =
-    rw (
-      add-suc,
-      skip-word (termWord variableIndex t) _ (termWords variableIndex ts ++ s) (n + termCount ts) (kind-term variableIndex t),
-      add-zero,
-      skip-termWords variableIndex ts n s,
-    ) (omega arith)
+module _ (N : Naming) where
+  skip-termWords : (ts : Terms) (n : ℕ) (s : List ℕ) → skip (termWordsIn N ts ++ s) (n + termCount ts) ≡ termCount ts + skip s n
+  skip-termWords noTerms n s = rw add-zero (omega arith)
+  skip-termWords (term t ts) n s =
+      rw (
+        add-suc,
+        skip-word (termWord (N .variableIndex) t) _ (termWordsIn N ts ++ s) (n + termCount ts) (kind-term (N .variableIndex) t),
+        add-zero,
+        skip-termWords ts n s,
+      ) (omega arith)
 
--- predicates of an index that an atom's word has room for
-module _ (variableIndex predicateIndex : Name → ℕ) (small : (p : Name) → predicateIndex p < 256) where
   mutual
     unfolding words size
 
-    pub skip-words : (f : Formula) (n : ℕ) (s : List ℕ) → skip (words variableIndex predicateIndex f ++ s) (suc n) ≡ size f + skip s n
+    pub skip-words : (f : Formula) (n : ℕ) (s : List ℕ) → skip (wordsIn N f ++ s) (suc n) ≡ size f + skip s n
     skip-words (truth b) n s = skip-word (truthWord b) _ s n (kind-truth b) ∙ rw add-zero (omega arith)
     skip-words (atom p ts) n s =
-        skip-word _ _ (termWords variableIndex ts ++ s) n (kind-atom (predicateIndex p) (termCount ts) (small p))
-        ∙ rw (skip-termWords variableIndex ts n s) (omega arith)
+        skip-word _ _ (termWordsIn N ts ++ s) n (kind-atom (N .predicateIndex p) (termCount ts) (N .small p))
+        ∙ rw (skip-termWords ts n s) (omega arith)
     skip-words (equal t u) n s =
-        skip-word 11 _ (termWord variableIndex t ∷ termWord variableIndex u ∷ s) n kind-equal
-        ∙ ap suc (skip-termWords variableIndex (term t (term u noTerms)) n s) ∙ omega arith
+        skip-word 11 _ (termWord (N .variableIndex) t ∷ termWord (N .variableIndex) u ∷ s) n kind-equal
+        ∙ ap suc (skip-termWords (term t (term u noTerms)) n s) ∙ omega arith
     skip-words (connective o fs) n s =
-        skip-word _ _ (allWords variableIndex predicateIndex fs ++ s) n (kind-connective o (partTotal fs)) ∙ rw (skip-allWords fs n s) (omega arith)
+        skip-word _ _ (allWordsIn N fs ++ s) n (kind-connective o (partTotal fs)) ∙ rw (skip-allWords fs n s) (omega arith)
     skip-words (quantifier c x g f) n s =
-        skip-word _ _ ((words variableIndex predicateIndex g ++ words variableIndex predicateIndex f) ++ s) n (kind-quantifier c (variableIndex x))
-        ∙ rw (append-assoc, add-two, skip-words g (suc n) (words variableIndex predicateIndex f ++ s), skip-words f n s) (omega arith)
+        skip-word _ _ ((wordsIn N g ++ wordsIn N f) ++ s) n (kind-quantifier c (N .variableIndex x))
+        ∙ rw (append-assoc, add-two, skip-words g (suc n) (wordsIn N f ++ s), skip-words f n s) (omega arith)
 
-    pub skip-allWords : (fs : Formulas) (n : ℕ) (s : List ℕ)
-        → skip (allWords variableIndex predicateIndex fs ++ s) (n + partTotal fs) ≡ sizes fs + skip s n
+    pub skip-allWords : (fs : Formulas) (n : ℕ) (s : List ℕ) → skip (allWordsIn N fs ++ s) (n + partTotal fs) ≡ sizes fs + skip s n
     skip-allWords noParts n s = rw add-zero (omega arith)
     skip-allWords (part f fs) n s =
-        rw (append-assoc, add-suc, skip-words f (n + partTotal fs) (allWords variableIndex predicateIndex fs ++ s), skip-allWords fs n s) (omega arith)
+        rw (append-assoc, add-suc, skip-words f (n + partTotal fs) (allWordsIn N fs ++ s), skip-allWords fs n s) (omega arith)
 
-  pub skip-first : (f : Formula) (s : List ℕ) → skip (words variableIndex predicateIndex f ++ s) 1 ≡ size f
-  skip-first f s = skip-words f 0 s ∙ rw skip-none (omega arith)
+  pub skip-first : (f : Formula) (s : List ℕ) → skip (wordsIn N f ++ s) 1 ≡ length (wordsIn N f)
+  skip-first f s = skip-words f 0 s ∙ rw (skip-none, length-words N f) (omega arith)
 
-  pub afterFirst-words : (f : Formula) (s : List ℕ) → afterFirst (words variableIndex predicateIndex f ++ s) ≡ s
-  afterFirst-words f s =
-      rw (skip-first f s, ← length-words variableIndex predicateIndex f) (drop-append-seam (words variableIndex predicateIndex f) s)
+  pub afterFirst-words : (f : Formula) (s : List ℕ) → afterFirst (wordsIn N f ++ s) ≡ s
+  afterFirst-words f s = rw (skip-first f s) (drop-append-seam (wordsIn N f) s)
