@@ -5,3 +5,4 @@ pub mod Stored
 pub mod Paths
 pub mod Flags
 pub mod Inner
+pub mod Indexed

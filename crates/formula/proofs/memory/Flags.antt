@@ -28,7 +28,7 @@ pub variable-closed : (word : ℕ) (flags : List Bool) → (word % 16 ≡ 12 →
 variable-closed word flags e = rw (ne-eqb (word % 16) 12 e)
 
 -- one flag more stands for one variable more
-flagged-set : (flags : List Bool) (x : ℕ) → x < length flags → besides (indexName x) (flagged flags) ≡ flagged (set flags x true)
+pub flagged-set : (flags : List Bool) (x : ℕ) → x < length flags → besides (indexName x) (flagged flags) ≡ flagged (set flags x true)
 flagged-set flags x h = fun-ext each
   where
     one : (y : ℕ) (b : Bool) → eqb y x ≡ b → (b && true || getD flags y false) ≡ getD (set flags x true) y false
