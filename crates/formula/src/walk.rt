@@ -7,7 +7,8 @@ ghost use mathlib.Core.Path.{_≡_};
 ghost use Prim.Native.Nat.{_+_, _≤_, _<_};
 ghost use lib.ListN.{length, drop};
 ghost use Rattle.formula.specs.memory.Kinds.{skip};
-ghost use Rattle.formula.specs.memory.Paths.{subformulaCount, placeBelow, Within};
+ghost use Rattle.text.specs.memory.Numbers.{numbersAt};
+ghost use Rattle.formula.specs.memory.Paths.{subformulaCount, placeBelow, placeOf, Within};
 
 // Where a formula stands, if there is one.
 pub enum Place {
@@ -67,4 +68,30 @@ pub fn down(work: &[u32], at: usize, part: u32) -> Place
         return Place::At(past(work, at + 1, wide(part)));
     }
     Place::Nowhere
+}
+
+// Along a path, whose numbers stand in a text one after the other.
+pub fn walk(work: &[u32], at: usize, text: &[u8], path: usize, steps: usize) -> Place
+    requires { ⌜ (length (now work) ≤ 16384) × (at ≤ length (now work)) × (path ≤ length (now text)) × (length (now text) ≤ 65536) × (steps ≤ 65536) ⌝ }
+    ensures { λ r. ⌜ (r ≡ placeOf (now (work .entry)) (numbersAt (now (text .entry)) path steps) at) × Within (length (now (work .entry))) r ⌝ }
+{
+    let mut place = at;
+    let mut number = path;
+    let mut pending = steps;
+    while pending > 0 {
+        let digits = text::number::digits_at(text, number);
+        let next = digits.next;
+        let part = digits.value;
+        match down(work, place, part) {
+            Place::At(below) => {
+                place = below;
+            }
+            Place::Nowhere => {
+                return Place::Nowhere;
+            }
+        }
+        number = next + 1;
+        pending -= 1;
+    }
+    Place::At(place)
 }

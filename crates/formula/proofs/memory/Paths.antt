@@ -1,15 +1,18 @@
 -- One level down in memory, and a turn of the walk along a path.
 -- Assumes nothing.
-use Prim.Native.Nat.{ℕ, _+_, _≤_, _<_}
+use Prim.Native.Nat.{ℕ, zero, suc, _+_, _-_, _≤_, _<_}
+use native.Mathlib.Numerals.{sub-one}
 use native.Mathlib.Omega.{arith}
-use mathlib.Core.Path.{_≡_, refl, subst}
+use mathlib.Core.Path.{_≡_, refl, sym, ap, _∙_}
 use mathlib.Core.List.{List}
 use mathlib.Core.Bool.{Bool, true, false}
 use borrow.Author.Tests.{lt-ltb, le-ltb, ltb-true, ltb-false}
 use lib.Dec.{ltb}
 use lib.ListN.{length, getD, drop, List·getD-eq-default}
+use Rattle.text.specs.Bytes.{Bytes}
+use Rattle.text.specs.memory.Numbers.{numberAt, numberEnd, numbersAt}
 use Rattle.formula.specs.memory.Kinds.{kindOf, kindBy, skip}
-use Rattle.formula.specs.memory.Paths.{subformulaCount, placeBelow}
+use Rattle.formula.specs.memory.Paths.{subformulaCount, placeBelow, placeOf, onward}
 use Rattle.formula.specs.declared.walk.Place.{Place}
 use Rattle.formula.specs.declared.walk.Place.the-variants.{At, Nowhere}
 
@@ -32,3 +35,29 @@ module _ (work : List ℕ) (at i : ℕ) where
   pub below-nowhere : subformulaCount (kindOf (getD work at 0)) ≤ i → Nowhere ≡ placeBelow work at i
   unfolding placeBelow
   below-nowhere h = rw (le-ltb i (subformulaCount (kindOf (getD work at 0))) h)
+
+-- A turn along the numbers of a path.
+module _ (work : List ℕ) (text : Bytes) (number pending place : ℕ) where
+  pub walk-end : pending ≡ 0 → placeOf work (numbersAt text number pending) place ≡ At place
+  unfolding placeOf numbersAt
+  walk-end e = rw e
+
+  walk-turn : (next : ℕ) → 0 < pending → next ≡ numberEnd text number
+      → placeOf work (numbersAt text number pending) place ≡ onward (placeBelow work place (numberAt text number)) (placeOf work (numbersAt text (next + 1) (pending - 1)))
+  unfolding placeOf numbersAt
+  walk-turn next h e = pick pending h
+    where
+      pick : (n : ℕ) → 0 < n
+          → placeOf work (numbersAt text number n) place ≡ onward (placeBelow work place (numberAt text number)) (placeOf work (numbersAt text (next + 1) (n - 1)))
+      pick zero k = absurd (omega arith)
+      pick (suc n) k = rw (sub-one (suc n), e, numbersAt)
+
+  pub walk-on : (next below : ℕ) (found : Place) → 0 < pending → next ≡ numberEnd text number → found ≡ placeBelow work place (numberAt text number) → found ≡ At below
+      → placeOf work (numbersAt text number pending) place ≡ placeOf work (numbersAt text (next + 1) (pending - 1)) below
+  walk-on next below found h e p q =
+      walk-turn next h e ∙ ap (λ (d : Place). onward d (placeOf work (numbersAt text (next + 1) (pending - 1)))) (sym p ∙ q)
+
+  pub walk-stop : (next : ℕ) (found : Place) → 0 < pending → next ≡ numberEnd text number → found ≡ placeBelow work place (numberAt text number) → found ≡ Nowhere
+      → placeOf work (numbersAt text number pending) place ≡ Nowhere
+  walk-stop next found h e p q =
+      walk-turn next h e ∙ ap (λ (d : Place). onward d (placeOf work (numbersAt text (next + 1) (pending - 1)))) (sym p ∙ q)

@@ -1,0 +1,89 @@
+-- `walk::walk` goes along a path. The invariant: from here, along the numbers that are still pending, the same place is reached.
+-- Assumes nothing.
+use borrow.Author.Needs.{needs}
+use native.Mathlib.Omega.{arith}
+use Prim.Native.Nat.{_+_, _-_, _≤_}
+use mathlib.Core.Path.{_≡_, refl, sym, ap, subst, _∙_}
+use lib.ListN.{length}
+use Rattle.text.specs.memory.Numbers.{numbersAt}
+use Rattle.formula.specs.memory.Paths.{placeBelow, placeOf, Within}
+use Rattle.formula.proofs.memory.Paths.{walk-end, walk-on, walk-stop}
+use Rattle.formula.proofs.walk.walk.Statement.{statement}
+use Rattle.formula.proofs.walk.walk.Tie as tie
+
+abbrev Inv-loop : tie.InvT-loop
+Inv-loop work at text path steps place₀ number₀ pending₀ place number pending =
+    (place ≤ length work) × (pending ≤ steps) × (number + pending ≤ length text + steps) × (placeOf work (numbersAt text path steps) at ≡ placeOf work (numbersAt text number pending) place)
+
+abbrev μ-loop : tie.MeasureT-loop
+μ-loop work at text path steps place₀ number₀ pending₀ place number pending = pending
+
+loop-holds : tie.Need-loop-holds Inv-loop μ-loop
+loop-holds c = (omega arith, omega arith, omega arith, refl)
+
+digits-at-requires : tie.Need-digits-at-requires Inv-loop μ-loop
+digits-at-requires c κs = search needs
+
+down-requires : tie.Need-down-requires Inv-loop μ-loop
+down-requires c κs = search needs
+
+enum-known-below : tie.Need-enum-known-below Inv-loop μ-loop
+enum-known-below c = search needs
+
+enum-told : tie.Need-enum-told Inv-loop μ-loop
+enum-told c = search needs
+
+returns : tie.Need-returns Inv-loop μ-loop
+returns c =
+    let a = c .before .before .before .before .before .before .before .before .args in
+    let l = c .before .before .before .before .before .loop in
+    let d = c .before .before .before .digits-at .ensures in (
+      sym (l .inv .3 ∙ walk-stop (a .work .now) (a .text .now) (l .number) (l .pending) (l .place) _ (c .before .before .down .result) (omega arith) (d .next)
+          (c .before .before .down .ensures .0 ∙ ap (placeBelow (a .work .now) (l .place)) (d .value)) (c .enum-told .given .1)),
+      tt,
+    )
+
+add-number : tie.Need-add-number Inv-loop μ-loop
+add-number c = search needs
+
+sub-pending : tie.Need-sub-pending Inv-loop μ-loop
+sub-pending c = search needs
+
+loop-less : tie.Need-loop-less Inv-loop μ-loop
+loop-less c = search needs
+
+loop-again : tie.Need-loop-again Inv-loop μ-loop
+loop-again c =
+    let a = c .before .before .before .before .before .before .before .before .before .args in
+    let l = c .before .before .before .before .before .before .loop in
+    let d = c .before .before .before .before .digits-at .ensures in (
+      subst (Within (length (a .work .now))) (c .before .below .given .1) (c .before .before .before .down .ensures .1),
+      omega arith,
+      omega (arith, d .within),
+      l .inv .3 ∙ walk-on (a .work .now) (a .text .now) (l .number) (l .pending) (l .place) _ _ (c .before .before .before .down .result) (omega arith) (d .next)
+          (c .before .before .before .down .ensures .0 ∙ ap (placeBelow (a .work .now) (l .place)) (d .value)) (c .before .below .given .1),
+    )
+
+returns-2 : tie.Need-returns-2 Inv-loop μ-loop
+returns-2 c =
+    let a = c .before .before .before .before .args in
+    let l = c .before .loop in
+    (sym (l .inv .3 ∙ walk-end (a .work .now) (a .text .now) (l .number) (l .pending) (l .place) (omega arith)), l .inv .0)
+
+pub walk-spec : {M : Type 1} → statement M
+walk-spec =
+    tie.close
+    (tie.spec
+    Inv-loop
+    μ-loop
+    loop-holds
+    digits-at-requires
+    down-requires
+    enum-known-below
+    enum-told
+    returns
+    add-number
+    sub-pending
+    loop-less
+    loop-again
+    returns-2)
