@@ -4,5 +4,6 @@ pub mod Words
 pub mod Stored
 pub mod Paths
 pub mod Flags
+pub mod Values
 pub mod Inner
 pub mod Indexed

@@ -3,3 +3,4 @@ pub mod Words
 pub mod Stored
 pub mod Paths
 pub mod Flags
+pub mod Values

@@ -1,6 +1,7 @@
 -- Laws of `skip`: a turn of the loop that counts the parts still to come, and that it stays within the words.
 -- Assumes nothing.
 use Prim.Native.Nat.{ℕ, zero, suc, _+_, _-_, _≤_, _<_}
+use native.Mathlib.Nat.{zero-add, suc-add}
 use native.Mathlib.Numerals.{add-one, sub-one}
 use native.Mathlib.Omega.{arith}
 use mathlib.Core.Path.{_≡_, refl}
@@ -32,3 +33,13 @@ skip-atmost (w ∷ s) (suc n) = let h = skip-atmost s (n + partCount (kindOf w))
 
 pub skip-within : (s : List ℕ) (i n : ℕ) → i ≤ length s → i + skip (drop i s) n ≤ length s
 skip-within s i n h = let k = skip-atmost (drop i s) n in omega (arith, length-drop i s)
+
+-- some formulas, and then some more
+pub skip-add : (s : List ℕ) (m n : ℕ) → skip s (m + n) ≡ skip s m + skip (drop (skip s m) s) n
+unfolding skip
+skip-add [] m n = refl
+skip-add (w ∷ s) zero n = rw (zero-add, zero-add)
+skip-add (w ∷ s) (suc m) n =
+    let k = partCount (kindOf w) in
+    let e : m + n + k ≡ m + k + n = omega arith in
+    rw (suc-add, e, skip-add s (m + k) n) (omega arith)

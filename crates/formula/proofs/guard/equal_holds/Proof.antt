@@ -1,0 +1,37 @@
+-- `guard::equal_holds` compares the values of two terms.
+-- Assumes nothing.
+use borrow.Author.Needs.{needs}
+use Prim.Native.Nat.{ℕ}
+use lib.Dec.{eqb}
+use mathlib.Core.Path.{ap, ap₂, _∙_}
+use Rattle.formula.specs.Meaning.{valueOf}
+use Rattle.formula.specs.memory.Stored.{termOf, indexName}
+use Rattle.formula.specs.memory.Values.{valued}
+use Rattle.formula.proofs.guard.equal_holds.Statement.{statement}
+use Rattle.formula.proofs.guard.equal_holds.Tie as tie
+
+peek-requires : tie.Need-peek-requires
+peek-requires c κs = search needs
+
+value-of-requires : tie.Need-value-of-requires
+value-of-requires c κs = search needs
+
+add-peek : tie.Need-add-peek
+add-peek c = search needs
+
+peek-requires-2 : tie.Need-peek-requires-2
+peek-requires-2 c κs = search needs
+
+value-of-requires-2 : tie.Need-value-of-requires-2
+value-of-requires-2 c κs = search needs
+
+returns : tie.Need-returns
+returns c =
+    let a = c .before .before .before .before .before .args in
+    let value : ℕ → ℕ = λ w. valueOf (valued (a .values)) (termOf indexName w) in
+    ap₂ eqb (c .before .before .value-of .ensures .0 ∙ ap value (c .before .before .before .peek .ensures)) (c .value-of2 .ensures .0 ∙ ap value (c .before .peek2 .ensures))
+
+pub equal-holds-spec : {M : Type 1} → statement M
+equal-holds-spec =
+    tie.close
+    (tie.spec peek-requires value-of-requires add-peek peek-requires-2 value-of-requires-2 returns)

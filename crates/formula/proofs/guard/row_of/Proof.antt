@@ -1,0 +1,107 @@
+-- `guard::row_of` puts the values of up to three terms together.
+-- Assumes nothing.
+use borrow.Author.Needs.{needs}
+use native.Mathlib.Omega.{arith}
+use Prim.Native.Nat.{ℕ, _%_}
+use mathlib.Core.Path.{_≡_, sym, ap, _∙_}
+use Rattle.formula.specs.Meaning.{valueOf}
+use Rattle.formula.specs.memory.Stored.{termOf, indexName}
+use Rattle.formula.specs.memory.Values.{valued}
+use Rattle.formula.proofs.memory.Values.{rowNumber, row-none, row-one, row-two, row-three}
+use Rattle.formula.proofs.guard.row_of.Statement.{statement}
+use Rattle.formula.proofs.guard.row_of.Tie as tie
+
+returns : tie.Need-returns
+returns c =
+    let a = c .before .before .args in
+    row-none (a .work .now) (a .at) (a .values) ∙ ap (rowNumber (a .work .now) (a .at) (a .values)) (sym (c .if1 .taken))
+
+peek-requires : tie.Need-peek-requires
+peek-requires c κs = search needs
+
+value-of-requires : tie.Need-value-of-requires
+value-of-requires c κs = search needs
+
+returns-2 : tie.Need-returns-2
+returns-2 c =
+    let a = c .before .before .before .before .before .args in
+    let value : ℕ → ℕ = λ w. valueOf (valued (a .values)) (termOf indexName w) in
+    let first = c .before .value-of .ensures .0 ∙ ap value (c .before .before .peek .ensures) in
+    first ∙ row-one (a .work .now) (a .at) (a .values) ∙ ap (rowNumber (a .work .now) (a .at) (a .values)) (sym (c .if2 .taken))
+
+add-peek : tie.Need-add-peek
+add-peek c = search needs
+
+peek-requires-2 : tie.Need-peek-requires-2
+peek-requires-2 c κs = search needs
+
+value-of-requires-2 : tie.Need-value-of-requires-2
+value-of-requires-2 c κs = search needs
+
+mul-result : tie.Need-mul-result
+mul-result c = search needs
+
+add-result : tie.Need-add-result
+add-result c = search needs
+
+returns-3 : tie.Need-returns-3
+returns-3 c =
+    let a = c .before .before .before .before .before .before .before .before .args in
+    let value : ℕ → ℕ = λ w. valueOf (valued (a .values)) (termOf indexName w) in
+    let first = c .before .before .before .before .value-of .ensures .0 ∙ ap value (c .before .before .before .before .before .peek .ensures) in
+    let second = c .before .value-of2 .ensures .0 ∙ ap value (c .before .before .peek2 .ensures) in
+    rw (first, second) (row-two (a .work .now) (a .at) (a .values) ∙ ap (rowNumber (a .work .now) (a .at) (a .values)) (sym (c .if3 .taken)))
+
+add-peek-2 : tie.Need-add-peek-2
+add-peek-2 c = search needs
+
+peek-requires-3 : tie.Need-peek-requires-3
+peek-requires-3 c κs = search needs
+
+value-of-requires-3 : tie.Need-value-of-requires-3
+value-of-requires-3 c κs = search needs
+
+mul-result-2 : tie.Need-mul-result-2
+mul-result-2 c = search needs
+
+add-result-2 : tie.Need-add-result-2
+add-result-2 c = search needs
+
+mul-result-3 : tie.Need-mul-result-3
+mul-result-3 c = search needs
+
+add-result-3 : tie.Need-add-result-3
+add-result-3 c = search needs
+
+returns-4 : tie.Need-returns-4
+returns-4 c =
+    let a = c .before .before .before .before .before .before .before .before .before .before .args in
+    let value : ℕ → ℕ = λ w. valueOf (valued (a .values)) (termOf indexName w) in
+    let first = c .before .before .before .before .before .before .value-of .ensures .0 ∙ ap value (c .before .before .before .before .before .before .before .peek .ensures) in
+    let second = c .before .before .before .value-of2 .ensures .0 ∙ ap value (c .before .before .before .before .peek2 .ensures) in
+    let third = c .value-of3 .ensures .0 ∙ ap value (c .before .peek3 .ensures) in
+    let e : 3 ≡ a .terms % 4 = omega arith in
+    rw (first, second, third) (row-three (a .work .now) (a .at) (a .values) ∙ ap (rowNumber (a .work .now) (a .at) (a .values)) e)
+
+pub row-of-spec : {M : Type 1} → statement M
+row-of-spec =
+    tie.close
+    (tie.spec
+    returns
+    peek-requires
+    value-of-requires
+    returns-2
+    add-peek
+    peek-requires-2
+    value-of-requires-2
+    mul-result
+    add-result
+    returns-3
+    add-peek-2
+    peek-requires-3
+    value-of-requires-3
+    mul-result-2
+    add-result-2
+    mul-result-3
+    add-result-3
+    returns-4)
