@@ -7,3 +7,4 @@ pub mod Flags
 pub mod Values
 pub mod Inner
 pub mod Indexed
+pub mod Storing

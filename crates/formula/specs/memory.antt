@@ -4,3 +4,4 @@ pub mod Stored
 pub mod Paths
 pub mod Flags
 pub mod Values
+pub mod Storing
