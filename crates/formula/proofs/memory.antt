@@ -8,3 +8,4 @@ pub mod Values
 pub mod Inner
 pub mod Indexed
 pub mod Storing
+pub mod Cursor

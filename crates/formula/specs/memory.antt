@@ -5,3 +5,4 @@ pub mod Paths
 pub mod Flags
 pub mod Values
 pub mod Storing
+pub mod Cursor

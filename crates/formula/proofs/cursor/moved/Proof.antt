@@ -1,0 +1,63 @@
+-- `cursor::moved` goes on by one byte: by whether all was the same so far, whether this byte is, and whether it is an LF.
+-- Assumes nothing.
+use borrow.Author.Needs.{needs}
+use mathlib.Core.Path.{sym, _∙_}
+use mathlib.Core.Bool.{true, false}
+use borrow.Author.Tests.{not-true, not-false}
+use Rattle.formula.proofs.memory.Cursor.{agrees-before, agrees-here, cursor-other, cursor-plain, cursor-feed}
+use Rattle.formula.proofs.cursor.moved.Statement.{statement}
+use Rattle.formula.proofs.cursor.moved.Tie as tie
+
+more-requires : tie.Need-more-requires
+more-requires c κs = search needs
+
+returns : tie.Need-returns
+returns c =
+    let a = c .before .before .before .before .args in
+    cursor-other (a .claim .now) (a .cursor) (a .b) _ (c .before .before .more .ensures) (agrees-before (a .claim .now) (a .cursor) (a .b) (not-true _ (c .if1 .taken)))
+
+stands-requires : tie.Need-stands-requires
+stands-requires c κs = search needs
+
+returns-2 : tie.Need-returns-2
+returns-2 c =
+    let a = c .before .before .before .before .before .before .args in
+    cursor-other (a .claim .now) (a .cursor) (a .b) _ (c .before .before .before .before .more .ensures)
+    (agrees-here (a .claim .now) (a .cursor) (a .b) false (not-false _ (c .before .before .if1 .left)) (sym (c .before .stands .ensures) ∙ not-true _ (c .if2 .taken)))
+
+returns-3 : tie.Need-returns-3
+returns-3 c =
+    let a = c .before .before .before .before .before .before .before .args in
+    cursor-plain (a .claim .now) (a .cursor) (a .b) _ (c .before .before .before .before .before .more .ensures)
+    (agrees-here (a .claim .now) (a .cursor) (a .b) true (not-false _ (c .before .before .before .if1 .left)) (sym (c .before .before .stands .ensures) ∙ not-false _ (c .before .if2 .left)))
+    (c .if3 .taken)
+
+cast-more : tie.Need-cast-more
+cast-more c = search needs
+
+more-requires-2 : tie.Need-more-requires-2
+more-requires-2 c κs = search needs
+
+cast-t11 : tie.Need-cast-t11
+cast-t11 c = search needs
+
+returns-4 : tie.Need-returns-4
+returns-4 c =
+    let a = c .before .before .before .before .before .before .before .before .args in
+    cursor-feed (a .claim .now) (a .cursor) (a .b) _ (c .before .before .before .before .before .before .more .ensures)
+    (agrees-here (a .claim .now) (a .cursor) (a .b) true (not-false _ (c .before .before .before .before .if1 .left)) (sym (c .before .before .before .stands .ensures) ∙ not-false _ (c .before .before .if2 .left)))
+    _ (c .before .if3 .left) (c .more2 .ensures)
+
+pub moved-spec : {M : Type 1} → statement M
+moved-spec =
+    tie.close
+    (tie.spec
+    more-requires
+    returns
+    stands-requires
+    returns-2
+    returns-3
+    cast-more
+    more-requires-2
+    cast-t11
+    returns-4)
