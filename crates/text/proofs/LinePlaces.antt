@@ -32,7 +32,7 @@ use Rattle.text.specs.declared.rule_line.LineRead.{LineRead}
 use Rattle.text.specs.declared.rule_line.LineRead.the-variants as line
 use Rattle.text.proofs.Bytes.{range-within, range-below, range-above}
 use Rattle.text.proofs.Derivation.{reads-ranged}
-use Rattle.text.proofs.Found.{found-give, found-taken, found-then, refused-first, refused-then, found-require, refused-require, found-word, refused-word, found-token, refused-token, found-later, refused-later, oneOf-this, oneOf-other, oneOf-only}
+use Rattle.text.proofs.Found.{found-give, found-taken, found-then, refused-first, refused-then, found-require, refused-require, word-found, found-word, refused-word, found-token, refused-token, found-later, refused-later, oneOf-this, oneOf-other, oneOf-only}
 use Rattle.text.proofs.Outcome.{Allowed}
 use Rattle.text.proofs.Places.{next-inside}
 use Rattle.text.proofs.Reading.{span-split}
@@ -297,10 +297,15 @@ module _ (text : Bytes) (at : ℕ) where
       oneOf-other text at (k .0) (k .1) kinds (refuse 10) (absent .0) ∙ kinds-passed some kinds (absent .1)
 
   pub kind-told : (some : ℕ) (kinds : List (Bytes × Reader Line)) → Absent (drop at text) (take some kinds)
-      → {w : Bytes} {r : Reader Line} {rest : List (Bytes × Reader Line)} → drop some kinds ≡ w ⇒ r ∷ rest → {next : ℕ} → WordFound w text at next → at < next
-      → Behind (oneOf kinds (refuse 10) (drop at text)) r text at next
-  kind-told some kinds absent {w} {r} {rest} e found h =
-      record { is = kinds-passed some kinds absent ∙ rw e (oneOf-this text at w r rest (refuse 10) found); after = h; within = found .within }
+      → {w : Bytes} {r : Reader Line} {rest : List (Bytes × Reader Line)} → drop some kinds ≡ w ⇒ r ∷ rest
+      → at ≤ length text → begins w (drop at text) ≡ true → 0 < length w → Behind (oneOf kinds (refuse 10) (drop at text)) r text at (at + length w)
+  kind-told some kinds absent {w} {r} {rest} e h stands nonempty =
+      let found = word-found text at w h stands in
+      record {
+        is = kinds-passed some kinds absent ∙ rw e (oneOf-this text at w r rest (refuse 10) found);
+        after = omega arith;
+        within = found .within;
+      }
 
   pub kind-unknown : (some : ℕ) (kinds : List (Bytes × Reader Line)) → Absent (drop at text) (take some kinds) → drop some kinds ≡ []
       → ToldKind (oneOf kinds (refuse 10) (drop at text)) text at kind.Unknown

@@ -307,6 +307,70 @@ fn footer_at(text: &[u8], at: usize) -> LineRead
     }
 }
 
+// The kind of a line that is no rewriting.
+fn other_kind_at(text: &[u8], at: usize) -> LineKind
+    requires { ⌜ at ≤ length (now text) ⌝ }
+    ensures { λ r. ⌜ ToldKind (oneOf (drop 6 lineKinds) (refuse 10) (drop at (now (text .entry)))) (now (text .entry)) at r ⌝ }
+{
+    if begins_at(text, at, b"UNSAT @ ") {
+        return LineKind::Unsat { next: at + 8 };
+    }
+    if begins_at(text, at, b"TRIVIAL - ") {
+        return LineKind::Trivial { next: at + 10 };
+    }
+    if begins_at(text, at, b"SPLITC ") {
+        return LineKind::Split { next: at + 7 };
+    }
+    if begins_at(text, at, b"FINAL IDS : ") {
+        return LineKind::Footer { next: at + 12 };
+    }
+    LineKind::Unknown
+}
+
+// The kind of a line.
+fn kind_at(text: &[u8], at: usize) -> LineKind
+    requires { ⌜ at ≤ length (now text) ⌝ }
+    ensures { λ r. ⌜ ToldKind (readLine (drop at (now (text .entry)))) (now (text .entry)) at r ⌝ }
+{
+    if begins_at(text, at, b"SNAND @ ") {
+        return LineKind::Rewrite {
+            rule: Rule::Snand,
+            next: at + 8,
+        };
+    }
+    if begins_at(text, at, b"SNOR @ ") {
+        return LineKind::Rewrite {
+            rule: Rule::Snor,
+            next: at + 7,
+        };
+    }
+    if begins_at(text, at, b"STN @ ") {
+        return LineKind::Rewrite {
+            rule: Rule::Stn,
+            next: at + 6,
+        };
+    }
+    if begins_at(text, at, b"EPRED @ ") {
+        return LineKind::Rewrite {
+            rule: Rule::Epred,
+            next: at + 8,
+        };
+    }
+    if begins_at(text, at, b"EPROP @ ") {
+        return LineKind::Rewrite {
+            rule: Rule::Eprop,
+            next: at + 8,
+        };
+    }
+    if begins_at(text, at, b"IQ @ ") {
+        return LineKind::Rewrite {
+            rule: Rule::Iq,
+            next: at + 5,
+        };
+    }
+    other_kind_at(text, at)
+}
+
 // The place after the heading's first line.
 pub fn version_end(text: &[u8], at: usize) -> Ended
     requires { ⌜ at ≤ length (now text) ⌝ }
