@@ -371,6 +371,61 @@ fn kind_at(text: &[u8], at: usize) -> LineKind
     other_kind_at(text, at)
 }
 
+// The line that begins at a place.
+pub fn line_at(text: &[u8], at: usize) -> LineRead
+    requires { ⌜ at ≤ length (now text) ⌝ }
+    ensures { λ r. ⌜ ToldLine readLine (now (text .entry)) at r ⌝ }
+{
+    match kind_at(text, at) {
+        LineKind::Rewrite { rule, next } => match last_position_at(text, next) {
+            PositionRead::Position {
+                name,
+                path,
+                steps,
+                next,
+            } => LineRead::Rewrite {
+                rule,
+                name,
+                path,
+                steps,
+                next,
+            },
+            PositionRead::Malformed => LineRead::Malformed,
+        },
+        LineKind::Unsat { next } => match last_position_at(text, next) {
+            PositionRead::Position {
+                name,
+                path,
+                steps,
+                next,
+            } => LineRead::Unsat {
+                name,
+                path,
+                steps,
+                next,
+            },
+            PositionRead::Malformed => LineRead::Malformed,
+        },
+        LineKind::Trivial { next } => match last_position_at(text, next) {
+            PositionRead::Position {
+                name,
+                path,
+                steps,
+                next,
+            } => LineRead::Trivial {
+                name,
+                path,
+                steps,
+                next,
+            },
+            PositionRead::Malformed => LineRead::Malformed,
+        },
+        LineKind::Split { next } => split_at(text, next),
+        LineKind::Footer { next } => footer_at(text, next),
+        LineKind::Unknown => LineRead::Malformed,
+    }
+}
+
 // The place after the heading's first line.
 pub fn version_end(text: &[u8], at: usize) -> Ended
     requires { ⌜ at ≤ length (now text) ⌝ }

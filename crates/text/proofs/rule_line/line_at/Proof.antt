@@ -1,0 +1,135 @@
+-- `rule_line::line_at` tells a line's kind by its word, and reads what follows as that kind.
+-- Assumes nothing.
+use borrow.Author.Needs.{needs}
+use mathlib.Core.Path.{_≡_, subst, _∙_}
+use lib.ListN.{drop}
+use Rattle.text.specs.Derivation.{rewrite, unsat, trivial, readLine}
+use Rattle.text.specs.memory.RuleLines.{ruleOf, ToldLast, ToldKind}
+use Rattle.text.proofs.LinePlaces.{line-refused, line-read, line-told}
+use Rattle.text.proofs.rule_line.line_at.Statement.{statement}
+use Rattle.text.proofs.rule_line.line_at.Tie as tie
+
+kind-at-requires : tie.Need-kind-at-requires
+kind-at-requires c κs = search needs
+
+enum-known-rule : tie.Need-enum-known-rule
+enum-known-rule c = search needs
+
+last-position-at-requires : tie.Need-last-position-at-requires
+last-position-at-requires c κs = let b = (subst (ToldKind (readLine (drop (c .before .before .before .before .before .args .at) (c .before .before .before .before .before .args .text .now))) (c .before .before .before .before .before .args .text .now) (c .before .before .before .before .before .args .at)) (c .before .rule .given .1) (c .before .before .before .kind-at .ensures)) in b .within
+
+enum-known-name : tie.Need-enum-known-name
+enum-known-name c = search needs
+
+enum-told : tie.Need-enum-told
+enum-told c = search needs
+
+enum-known-next : tie.Need-enum-known-next
+enum-known-next c = search needs
+
+last-position-at-requires-2 : tie.Need-last-position-at-requires-2
+last-position-at-requires-2 c κs = let b = (subst (ToldKind (readLine (drop (c .before .before .before .before .before .args .at) (c .before .before .before .before .before .args .text .now))) (c .before .before .before .before .before .args .text .now) (c .before .before .before .before .before .args .at)) (c .before .next .given .1) (c .before .before .before .kind-at .ensures)) in b .within
+
+enum-known-name-2 : tie.Need-enum-known-name-2
+enum-known-name-2 c = search needs
+
+enum-told-2 : tie.Need-enum-told-2
+enum-told-2 c = search needs
+
+enum-known-next-2 : tie.Need-enum-known-next-2
+enum-known-next-2 c = search needs
+
+last-position-at-requires-3 : tie.Need-last-position-at-requires-3
+last-position-at-requires-3 c κs = let b = (subst (ToldKind (readLine (drop (c .before .before .before .before .before .args .at) (c .before .before .before .before .before .args .text .now))) (c .before .before .before .before .before .args .text .now) (c .before .before .before .before .before .args .at)) (c .before .next2 .given .1) (c .before .before .before .kind-at .ensures)) in b .within
+
+enum-known-name-3 : tie.Need-enum-known-name-3
+enum-known-name-3 c = search needs
+
+enum-told-3 : tie.Need-enum-told-3
+enum-told-3 c = search needs
+
+enum-known-next-3 : tie.Need-enum-known-next-3
+enum-known-next-3 c = search needs
+
+split-at-requires : tie.Need-split-at-requires
+split-at-requires c κs = let b = (subst (ToldKind (readLine (drop (c .before .before .before .before .before .args .at) (c .before .before .before .before .before .args .text .now))) (c .before .before .before .before .before .args .text .now) (c .before .before .before .before .before .args .at)) (c .before .next3 .given .1) (c .before .before .before .kind-at .ensures)) in b .within
+
+enum-known-next-4 : tie.Need-enum-known-next-4
+enum-known-next-4 c = search needs
+
+footer-at-requires : tie.Need-footer-at-requires
+footer-at-requires c κs = let b = (subst (ToldKind (readLine (drop (c .before .before .before .before .before .args .at) (c .before .before .before .before .before .args .text .now))) (c .before .before .before .before .before .args .text .now) (c .before .before .before .before .before .args .at)) (c .before .next4 .given .1) (c .before .before .before .kind-at .ensures)) in b .within
+
+enum-told-4 : tie.Need-enum-told-4
+enum-told-4 c = search needs
+
+returns : tie.Need-returns
+returns c =
+    let l = (subst (ToldLast (c .before .before .before .before .before .before .before .before .before .args .text .now) (c .before .before .before .before .before .rule .given .0 .1 .0)) (c .before .name .given .1) (c .before .before .before .last-position-at .ensures)) in
+    (line-read (c .before .before .before .before .before .before .before .before .before .args .text .now) (c .before .before .before .before .before .before .before .before .before .args .at) (subst (ToldKind (readLine (drop (c .before .before .before .before .before .before .before .before .before .args .at) (c .before .before .before .before .before .before .before .before .before .args .text .now))) (c .before .before .before .before .before .before .before .before .before .args .text .now) (c .before .before .before .before .before .before .before .before .before .args .at)) (c .before .before .before .before .before .rule .given .1) (c .before .before .before .before .before .before .before .kind-at .ensures)) (l .found (rewrite (ruleOf (c .before .before .before .before .before .rule .given .0 .0)))), l .few)
+
+returns-2 : tie.Need-returns-2
+returns-2 c =
+    let l = (subst (ToldLast (c .before .before .before .before .before .before .before .before .args .text .now) (c .before .before .before .before .rule .given .0 .1 .0)) (c .enum-told .given .1) (c .before .before .last-position-at .ensures)) in
+    line-refused (c .before .before .before .before .before .before .before .before .args .text .now) (c .before .before .before .before .before .before .before .before .args .at) (subst (ToldKind (readLine (drop (c .before .before .before .before .before .before .before .before .args .at) (c .before .before .before .before .before .before .before .before .args .text .now))) (c .before .before .before .before .before .before .before .before .args .text .now) (c .before .before .before .before .before .before .before .before .args .at)) (c .before .before .before .before .rule .given .1) (c .before .before .before .before .before .before .kind-at .ensures)) (l (rewrite (ruleOf (c .before .before .before .before .rule .given .0 .0))))
+
+returns-3 : tie.Need-returns-3
+returns-3 c =
+    let l = (subst (ToldLast (c .before .before .before .before .before .before .before .before .before .args .text .now) (c .before .before .before .before .before .next .given .0 .0)) (c .before .name2 .given .1) (c .before .before .before .last-position-at2 .ensures)) in
+    (line-read (c .before .before .before .before .before .before .before .before .before .args .text .now) (c .before .before .before .before .before .before .before .before .before .args .at) (subst (ToldKind (readLine (drop (c .before .before .before .before .before .before .before .before .before .args .at) (c .before .before .before .before .before .before .before .before .before .args .text .now))) (c .before .before .before .before .before .before .before .before .before .args .text .now) (c .before .before .before .before .before .before .before .before .before .args .at)) (c .before .before .before .before .before .next .given .1) (c .before .before .before .before .before .before .before .kind-at .ensures)) (l .found unsat), l .few)
+
+returns-4 : tie.Need-returns-4
+returns-4 c =
+    let l = (subst (ToldLast (c .before .before .before .before .before .before .before .before .args .text .now) (c .before .before .before .before .next .given .0 .0)) (c .enum-told2 .given .1) (c .before .before .last-position-at2 .ensures)) in
+    line-refused (c .before .before .before .before .before .before .before .before .args .text .now) (c .before .before .before .before .before .before .before .before .args .at) (subst (ToldKind (readLine (drop (c .before .before .before .before .before .before .before .before .args .at) (c .before .before .before .before .before .before .before .before .args .text .now))) (c .before .before .before .before .before .before .before .before .args .text .now) (c .before .before .before .before .before .before .before .before .args .at)) (c .before .before .before .before .next .given .1) (c .before .before .before .before .before .before .kind-at .ensures)) (l unsat)
+
+returns-5 : tie.Need-returns-5
+returns-5 c =
+    let l = (subst (ToldLast (c .before .before .before .before .before .before .before .before .before .args .text .now) (c .before .before .before .before .before .next2 .given .0 .0)) (c .before .name3 .given .1) (c .before .before .before .last-position-at3 .ensures)) in
+    (line-read (c .before .before .before .before .before .before .before .before .before .args .text .now) (c .before .before .before .before .before .before .before .before .before .args .at) (subst (ToldKind (readLine (drop (c .before .before .before .before .before .before .before .before .before .args .at) (c .before .before .before .before .before .before .before .before .before .args .text .now))) (c .before .before .before .before .before .before .before .before .before .args .text .now) (c .before .before .before .before .before .before .before .before .before .args .at)) (c .before .before .before .before .before .next2 .given .1) (c .before .before .before .before .before .before .before .kind-at .ensures)) (l .found trivial), l .few)
+
+returns-6 : tie.Need-returns-6
+returns-6 c =
+    let l = (subst (ToldLast (c .before .before .before .before .before .before .before .before .args .text .now) (c .before .before .before .before .next2 .given .0 .0)) (c .enum-told3 .given .1) (c .before .before .last-position-at3 .ensures)) in
+    line-refused (c .before .before .before .before .before .before .before .before .args .text .now) (c .before .before .before .before .before .before .before .before .args .at) (subst (ToldKind (readLine (drop (c .before .before .before .before .before .before .before .before .args .at) (c .before .before .before .before .before .before .before .before .args .text .now))) (c .before .before .before .before .before .before .before .before .args .text .now) (c .before .before .before .before .before .before .before .before .args .at)) (c .before .before .before .before .next2 .given .1) (c .before .before .before .before .before .before .kind-at .ensures)) (l trivial)
+
+returns-7 : tie.Need-returns-7
+returns-7 c = line-told (c .before .before .before .before .before .before .args .text .now) (c .before .before .before .before .before .before .args .at) (subst (ToldKind (readLine (drop (c .before .before .before .before .before .before .args .at) (c .before .before .before .before .before .before .args .text .now))) (c .before .before .before .before .before .before .args .text .now) (c .before .before .before .before .before .before .args .at)) (c .before .before .next3 .given .1) (c .before .before .before .before .kind-at .ensures)) (c .split-at .result) (c .split-at .ensures)
+
+returns-8 : tie.Need-returns-8
+returns-8 c = line-told (c .before .before .before .before .before .before .args .text .now) (c .before .before .before .before .before .before .args .at) (subst (ToldKind (readLine (drop (c .before .before .before .before .before .before .args .at) (c .before .before .before .before .before .before .args .text .now))) (c .before .before .before .before .before .before .args .text .now) (c .before .before .before .before .before .before .args .at)) (c .before .before .next4 .given .1) (c .before .before .before .before .kind-at .ensures)) (c .footer-at .result) (c .footer-at .ensures)
+
+returns-9 : tie.Need-returns-9
+returns-9 c = record { is = subst (ToldKind (readLine (drop (c .before .before .before .before .args .at) (c .before .before .before .before .args .text .now))) (c .before .before .before .before .args .text .now) (c .before .before .before .before .args .at)) (c .enum-told4 .given .1) (c .before .before .kind-at .ensures) }
+
+pub line-at-spec : {M : Type 1} → statement M
+line-at-spec =
+    tie.close
+    (tie.spec
+    kind-at-requires
+    enum-known-rule
+    last-position-at-requires
+    enum-known-name
+    enum-told
+    enum-known-next
+    last-position-at-requires-2
+    enum-known-name-2
+    enum-told-2
+    enum-known-next-2
+    last-position-at-requires-3
+    enum-known-name-3
+    enum-told-3
+    enum-known-next-3
+    split-at-requires
+    enum-known-next-4
+    footer-at-requires
+    enum-told-4
+    returns
+    returns-2
+    returns-3
+    returns-4
+    returns-5
+    returns-6
+    returns-7
+    returns-8
+    returns-9)
