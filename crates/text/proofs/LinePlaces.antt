@@ -8,7 +8,7 @@ use mathlib.Core.List.{List, [], _∷_, _++_, append-assoc}
 use mathlib.Core.Bool.{Bool, true, false, not, _&&_, and-false}
 use lib.Dec.{leb}
 use borrow.Author.Tests.{le-leb, lt-leb}
-use lib.ListN.{length, take, drop}
+use lib.ListN.{length, drop}
 use lib.Seq.{drop-drop}
 use Rattle.text.specs.Sizes.{greatestName, greatestPathNumber, grounderSize}
 use Rattle.text.specs.Bytes as bytes
@@ -282,35 +282,19 @@ module _ {text : Bytes} {at : ℕ} where
 
 -- The kind of a line, by its word.
 
--- none of their words stands there
-abbrev pub Absent : Bytes → List (Bytes × Reader Line) → Type 0
-Absent s [] = Unit {0}
-Absent s (k ∷ kinds) = (begins (k .0) s ≡ false) × Absent s kinds
+module _ (text : Bytes) (at : ℕ) (w : Bytes) (r : Reader Line) (kinds : List (Bytes × Reader Line)) {outcome : Outcome ℕ (Line × Bytes)}
+    (is : outcome ≡ oneOf (w ⇒ r ∷ kinds) (refuse 10) (drop at text)) where
+  pub kind-other : begins w (drop at text) ≡ false → outcome ≡ oneOf kinds (refuse 10) (drop at text)
+  kind-other e = is ∙ oneOf-other text at w r kinds (refuse 10) e
 
-module _ (text : Bytes) (at : ℕ) where
-  -- after some kinds whose words do not stand there
-  pub kinds-passed : (some : ℕ) (kinds : List (Bytes × Reader Line)) → Absent (drop at text) (take some kinds)
-      → oneOf kinds (refuse 10) (drop at text) ≡ oneOf (drop some kinds) (refuse 10) (drop at text)
-  kinds-passed zero kinds absent = refl
-  kinds-passed (suc some) [] absent = refl
-  kinds-passed (suc some) (k ∷ kinds) absent =
-      oneOf-other text at (k .0) (k .1) kinds (refuse 10) (absent .0) ∙ kinds-passed some kinds (absent .1)
+  pub kind-this : at ≤ length text → begins w (drop at text) ≡ true → 0 < length w → Behind outcome r text at (at + length w)
+  kind-this h e nonempty =
+      let found = word-found text at w h e in
+      record { is = is ∙ oneOf-this text at w r kinds (refuse 10) found; after = omega arith; within = found .within }
 
-  pub kind-told : (some : ℕ) (kinds : List (Bytes × Reader Line)) → Absent (drop at text) (take some kinds)
-      → {w : Bytes} {r : Reader Line} {rest : List (Bytes × Reader Line)} → drop some kinds ≡ w ⇒ r ∷ rest
-      → at ≤ length text → begins w (drop at text) ≡ true → 0 < length w → Behind (oneOf kinds (refuse 10) (drop at text)) r text at (at + length w)
-  kind-told some kinds absent {w} {r} {rest} e h stands nonempty =
-      let found = word-found text at w h stands in
-      record {
-        is = kinds-passed some kinds absent ∙ rw e (oneOf-this text at w r rest (refuse 10) found);
-        after = omega arith;
-        within = found .within;
-      }
-
-  pub kind-unknown : (some : ℕ) (kinds : List (Bytes × Reader Line)) → Absent (drop at text) (take some kinds) → drop some kinds ≡ []
-      → ToldKind (oneOf kinds (refuse 10) (drop at text)) text at kind.Unknown
-  unfolding oneOf
-  kind-unknown some kinds absent e = kinds-passed some kinds absent ∙ rw e
+pub kind-none : (text : Bytes) (at : ℕ) {outcome : Outcome ℕ (Line × Bytes)} → outcome ≡ oneOf [] (refuse 10) (drop at text) → ToldKind outcome text at kind.Unknown
+unfolding oneOf
+kind-none text at e = e
 
 -- A line, by its kind and by what follows.
 

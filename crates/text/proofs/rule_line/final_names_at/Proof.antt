@@ -18,7 +18,9 @@ enum-known-next : tie.Need-enum-known-next
 enum-known-next c = search needs
 
 returns : tie.Need-returns
-returns c = names-none (subst (ToldWord (bytes "-") (c .before .before .before .before .before .before .args .text .now) (c .before .before .before .before .before .before .args .at)) (c .before .next .given .1) (c .before .before .before .word-end .ensures))
+returns c =
+    let a = c .before .before .before .before .before .before .args in
+    names-none (subst (ToldWord (bytes "-") (a .text .now) (a .at)) (c .before .next .given .1) (c .before .before .before .word-end .ensures))
 
 enum-told : tie.Need-enum-told
 enum-told c = search needs
@@ -27,7 +29,9 @@ numbers-at-requires : tie.Need-numbers-at-requires
 numbers-at-requires c κs = search needs
 
 returns-2 : tie.Need-returns-2
-returns-2 c = names-told (c .before .before .before .before .before .before .args .text .now) (c .before .before .before .before .before .before .args .at) (subst (ToldWord (bytes "-") (c .before .before .before .before .before .before .args .text .now) (c .before .before .before .before .before .before .args .at)) (c .before .enum-told .given .1) (c .before .before .before .word-end .ensures)) (c .numbers-at .result) (c .numbers-at .ensures)
+returns-2 c =
+    let a = c .before .before .before .before .before .before .args in
+    names-told (a .text .now) (a .at) (subst (ToldWord (bytes "-") (a .text .now) (a .at)) (c .before .enum-told .given .1) (c .before .before .before .word-end .ensures)) (c .numbers-at .result) (c .numbers-at .ensures)
 
 pub final-names-at-spec : {M : Type 1} → statement M
 final-names-at-spec =

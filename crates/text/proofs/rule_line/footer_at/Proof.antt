@@ -3,10 +3,15 @@
 use borrow.Author.Needs.{needs}
 use mathlib.Core.Path.{_≡_, subst}
 use Rattle.text.specs.Bytes.{bytes}
-use Rattle.text.specs.memory.RuleLines.{readFinalNames, ToldWord, ToldNumbers}
+use Rattle.text.specs.memory.RuleLines.{readFinalNames, ToldWord, NumbersFound, ToldNumbers}
 use Rattle.text.proofs.LinePlaces.{footer-refused, footer-open, footer-found}
 use Rattle.text.proofs.rule_line.footer_at.Statement.{statement}
 use Rattle.text.proofs.rule_line.footer_at.Tie as tie
+
+names : (c : tie.After-first) → let a = c .before .before .before .before .args in NumbersFound readFinalNames (a .text .now) (a .at) (c .first .given .0 .0) (c .first .given .0 .1 .0) (c .first .given .0 .1 .1 .0)
+names c =
+    let a = c .before .before .before .before .args in
+    subst (ToldNumbers readFinalNames (a .text .now) (a .at)) (c .first .given .1) (c .before .before .final-names-at .ensures)
 
 final-names-at-requires : tie.Need-final-names-at-requires
 final-names-at-requires c κs = search needs
@@ -18,13 +23,15 @@ enum-told : tie.Need-enum-told
 enum-told c = search needs
 
 returns : tie.Need-returns
-returns c = footer-refused (subst (ToldNumbers readFinalNames (c .before .before .before .before .args .text .now) (c .before .before .before .before .args .at)) (c .enum-told .given .1) (c .before .before .final-names-at .ensures))
+returns c =
+    let a = c .before .before .before .before .args in
+    footer-refused (subst (ToldNumbers readFinalNames (a .text .now) (a .at)) (c .enum-told .given .1) (c .before .before .final-names-at .ensures))
 
 slice-aggregate-word-end : tie.Need-slice-aggregate-word-end
 slice-aggregate-word-end c = search needs
 
 word-end-requires : tie.Need-word-end-requires
-word-end-requires c κs = let names = (subst (ToldNumbers readFinalNames (c .before .before .before .before .before .before .args .text .now) (c .before .before .before .before .before .before .args .at)) (c .before .before .first .given .1) (c .before .before .before .before .final-names-at .ensures)) in names .found .within
+word-end-requires c κs = names (c .before .before) .found .within
 
 enum-known-end : tie.Need-enum-known-end
 enum-known-end c = search needs
@@ -34,13 +41,13 @@ enum-told-2 c = search needs
 
 returns-2 : tie.Need-returns-2
 returns-2 c =
-    footer-open (subst (ToldNumbers readFinalNames (c .before .before .before .before .before .before .before .before .before .args .text .now) (c .before .before .before .before .before .before .before .before .before .args .at)) (c .before .before .before .before .before .first .given .1) (c .before .before .before .before .before .before .before .final-names-at .ensures))
-    (subst (ToldWord (bytes "\n") (c .before .before .before .before .before .before .before .before .before .args .text .now) (c .before .before .before .before .before .first .given .0 .1 .1 .0)) (c .enum-told2 .given .1) (c .before .before .word-end .ensures))
+    let a = c .before .before .before .before .before .before .before .before .before .args in
+    footer-open (names (c .before .before .before .before .before)) (subst (ToldWord (bytes "\n") (a .text .now) (c .before .before .before .before .before .first .given .0 .1 .1 .0)) (c .enum-told2 .given .1) (c .before .before .word-end .ensures))
 
 returns-3 : tie.Need-returns-3
 returns-3 c =
-    footer-found (subst (ToldNumbers readFinalNames (c .before .before .before .before .before .before .before .before .before .before .args .text .now) (c .before .before .before .before .before .before .before .before .before .before .args .at)) (c .before .before .before .before .before .before .first .given .1) (c .before .before .before .before .before .before .before .before .final-names-at .ensures))
-    (subst (ToldWord (bytes "\n") (c .before .before .before .before .before .before .before .before .before .before .args .text .now) (c .before .before .before .before .before .before .first .given .0 .1 .1 .0)) (c .before .end .given .1) (c .before .before .before .word-end .ensures))
+    let a = c .before .before .before .before .before .before .before .before .before .before .args in
+    footer-found (names (c .before .before .before .before .before .before)) (subst (ToldWord (bytes "\n") (a .text .now) (c .before .before .before .before .before .before .first .given .0 .1 .1 .0)) (c .before .end .given .1) (c .before .before .before .word-end .ensures))
 
 pub footer-at-spec : {M : Type 1} → statement M
 footer-at-spec =

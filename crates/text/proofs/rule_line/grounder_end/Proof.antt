@@ -4,10 +4,16 @@ use borrow.Author.Needs.{needs}
 use mathlib.Core.Path.{_≡_, subst}
 use native.Mathlib.Omega.{arith}
 use Rattle.text.specs.Bytes.{bytes}
+use Rattle.text.specs.memory.Found.{WordFound}
 use Rattle.text.specs.memory.RuleLines.{ToldWord}
 use Rattle.text.proofs.LinePlaces.{grounder-unmarked, grounder-empty, grounder-long, grounder-told}
 use Rattle.text.proofs.rule_line.grounder_end.Statement.{statement}
 use Rattle.text.proofs.rule_line.grounder_end.Tie as tie
+
+marked : (c : tie.After-start) → let a = c .before .before .before .before .before .args in WordFound (bytes "grounder=") (a .text .now) (a .at) (c .start .given .0 .0)
+marked c =
+    let a = c .before .before .before .before .before .args in
+    subst (ToldWord (bytes "grounder=") (a .text .now) (a .at)) (c .start .given .1) (c .before .before .word-end .ensures)
 
 slice-aggregate-word-end : tie.Need-slice-aggregate-word-end
 slice-aggregate-word-end c = search needs
@@ -22,22 +28,28 @@ enum-told : tie.Need-enum-told
 enum-told c = search needs
 
 returns : tie.Need-returns
-returns c = grounder-unmarked (c .before .before .before .before .before .args .text .now) (c .before .before .before .before .before .args .at) (subst (ToldWord (bytes "grounder=") (c .before .before .before .before .before .args .text .now) (c .before .before .before .before .before .args .at)) (c .enum-told .given .1) (c .before .before .word-end .ensures))
+returns c =
+    let a = c .before .before .before .before .before .args in
+    grounder-unmarked (a .text .now) (a .at) (subst (ToldWord (bytes "grounder=") (a .text .now) (a .at)) (c .enum-told .given .1) (c .before .before .word-end .ensures))
 
 run-end-requires : tie.Need-run-end-requires
-run-end-requires c κs = let marked = (subst (ToldWord (bytes "grounder=") (c .before .before .before .before .before .before .args .text .now) (c .before .before .before .before .before .before .args .at)) (c .before .start .given .1) (c .before .before .before .word-end .ensures)) in marked .within
+run-end-requires c κs = marked (c .before) .within
 
 sub-if1 : tie.Need-sub-if1
 sub-if1 c = omega (arith, c .run-end .ensures .0)
 
 returns-2 : tie.Need-returns-2
-returns-2 c = grounder-empty (c .before .before .before .before .before .before .before .before .args .text .now) (c .before .before .before .before .before .before .before .before .args .at) _ (subst (ToldWord (bytes "grounder=") (c .before .before .before .before .before .before .before .before .args .text .now) (c .before .before .before .before .before .before .before .before .args .at)) (c .before .before .before .start .given .1) (c .before .before .before .before .before .word-end .ensures)) _ (c .before .run-end .ensures .0) (c .if1 .taken)
+returns-2 c =
+    let a = c .before .before .before .before .before .before .before .before .args in
+    grounder-empty (a .text .now) (a .at) _ (marked (c .before .before .before)) _ (c .before .run-end .ensures .0) (c .if1 .taken)
 
 sub-if2 : tie.Need-sub-if2
 sub-if2 c = omega (arith, c .before .run-end .ensures .0)
 
 returns-3 : tie.Need-returns-3
-returns-3 c = grounder-long (c .before .before .before .before .before .before .before .before .before .args .text .now) (c .before .before .before .before .before .before .before .before .before .args .at) _ (subst (ToldWord (bytes "grounder=") (c .before .before .before .before .before .before .before .before .before .args .text .now) (c .before .before .before .before .before .before .before .before .before .args .at)) (c .before .before .before .before .start .given .1) (c .before .before .before .before .before .before .word-end .ensures)) _ (c .before .before .run-end .ensures .0) (c .if2 .taken)
+returns-3 c =
+    let a = c .before .before .before .before .before .before .before .before .before .args in
+    grounder-long (a .text .now) (a .at) _ (marked (c .before .before .before .before)) _ (c .before .before .run-end .ensures .0) (c .if2 .taken)
 
 slice-aggregate-word-end-2 : tie.Need-slice-aggregate-word-end-2
 slice-aggregate-word-end-2 c = search needs
@@ -47,8 +59,9 @@ word-end-requires-2 c κs = c .before .before .before .run-end .ensures .1
 
 returns-4 : tie.Need-returns-4
 returns-4 c =
-    grounder-told (c .before .before .before .before .before .before .before .before .before .before .before .args .text .now) (c .before .before .before .before .before .before .before .before .before .before .before .args .at) _ (subst (ToldWord (bytes "grounder=") (c .before .before .before .before .before .before .before .before .before .before .before .args .text .now) (c .before .before .before .before .before .before .before .before .before .before .before .args .at)) (c .before .before .before .before .before .before .start .given .1) (c .before .before .before .before .before .before .before .before .word-end .ensures))
-    _ (c .before .before .before .before .run-end .ensures .0) (c .before .before .before .before .run-end .ensures .1) (c .before .before .before .if1 .left) (c .before .before .if2 .left) (c .word-end2 .result) (c .word-end2 .ensures)
+    let a = c .before .before .before .before .before .before .before .before .before .before .before .args in
+    grounder-told (a .text .now) (a .at) _ (marked (c .before .before .before .before .before .before)) _ (c .before .before .before .before .run-end .ensures .0) (c .before .before .before .before .run-end .ensures .1) (c .before .before .before .if1 .left) (c .before .before .if2 .left)
+    (c .word-end2 .result) (c .word-end2 .ensures)
 
 pub grounder-end-spec : {M : Type 1} → statement M
 grounder-end-spec =

@@ -3,10 +3,49 @@
 use borrow.Author.Needs.{needs}
 use native.Mathlib.Omega.{arith}
 use mathlib.Core.Path.{_≡_, refl, sym, _∙_}
+use lib.ListN.{drop}
+use Rattle.text.specs.Reading.{refuse, oneOf}
 use Rattle.text.specs.Derivation.{lineKinds, readLine}
-use Rattle.text.proofs.LinePlaces.{kinds-passed, kind-told}
+use Rattle.text.proofs.LinePlaces.{kind-other, kind-this}
 use Rattle.text.proofs.rule_line.kind_at.Statement.{statement}
 use Rattle.text.proofs.rule_line.kind_at.Tie as tie
+
+-- after each word that does not stand there
+passed-1 : (c : tie.Else1) → let a = c .before .before .before .before .args in readLine (drop (a .at) (a .text .now)) ≡ oneOf (drop 1 lineKinds) (refuse 10) (drop (a .at) (a .text .now))
+unfolding readLine lineKinds
+passed-1 c =
+    let a = c .before .before .before .before .args in
+    kind-other (a .text .now) (a .at) _ _ _ refl (sym (c .before .begins-at .ensures) ∙ c .if1 .left)
+
+passed-2 : (c : tie.Else2) → let a = c .before .before .before .before .before .before .before .args in readLine (drop (a .at) (a .text .now)) ≡ oneOf (drop 2 lineKinds) (refuse 10) (drop (a .at) (a .text .now))
+unfolding readLine lineKinds
+passed-2 c =
+    let a = c .before .before .before .before .before .before .before .args in
+    kind-other (a .text .now) (a .at) _ _ _ (passed-1 (c .before .before .before)) (sym (c .before .begins-at2 .ensures) ∙ c .if2 .left)
+
+passed-3 : (c : tie.Else3) → let a = c .before .before .before .before .before .before .before .before .before .before .args in readLine (drop (a .at) (a .text .now)) ≡ oneOf (drop 3 lineKinds) (refuse 10) (drop (a .at) (a .text .now))
+unfolding readLine lineKinds
+passed-3 c =
+    let a = c .before .before .before .before .before .before .before .before .before .before .args in
+    kind-other (a .text .now) (a .at) _ _ _ (passed-2 (c .before .before .before)) (sym (c .before .begins-at3 .ensures) ∙ c .if3 .left)
+
+passed-4 : (c : tie.Else4) → let a = c .before .before .before .before .before .before .before .before .before .before .before .before .before .args in readLine (drop (a .at) (a .text .now)) ≡ oneOf (drop 4 lineKinds) (refuse 10) (drop (a .at) (a .text .now))
+unfolding readLine lineKinds
+passed-4 c =
+    let a = c .before .before .before .before .before .before .before .before .before .before .before .before .before .args in
+    kind-other (a .text .now) (a .at) _ _ _ (passed-3 (c .before .before .before)) (sym (c .before .begins-at4 .ensures) ∙ c .if4 .left)
+
+passed-5 : (c : tie.Else5) → let a = c .before .before .before .before .before .before .before .before .before .before .before .before .before .before .before .before .args in readLine (drop (a .at) (a .text .now)) ≡ oneOf (drop 5 lineKinds) (refuse 10) (drop (a .at) (a .text .now))
+unfolding readLine lineKinds
+passed-5 c =
+    let a = c .before .before .before .before .before .before .before .before .before .before .before .before .before .before .before .before .args in
+    kind-other (a .text .now) (a .at) _ _ _ (passed-4 (c .before .before .before)) (sym (c .before .begins-at5 .ensures) ∙ c .if5 .left)
+
+passed-6 : (c : tie.Else6) → let a = c .before .before .before .before .before .before .before .before .before .before .before .before .before .before .before .before .before .before .before .args in readLine (drop (a .at) (a .text .now)) ≡ oneOf (drop 6 lineKinds) (refuse 10) (drop (a .at) (a .text .now))
+unfolding readLine lineKinds
+passed-6 c =
+    let a = c .before .before .before .before .before .before .before .before .before .before .before .before .before .before .before .before .before .before .before .args in
+    kind-other (a .text .now) (a .at) _ _ _ (passed-5 (c .before .before .before)) (sym (c .before .begins-at6 .ensures) ∙ c .if6 .left)
 
 slice-aggregate-begins-at : tie.Need-slice-aggregate-begins-at
 slice-aggregate-begins-at c = search needs
@@ -19,7 +58,9 @@ add-t13 c = search needs
 
 returns : tie.Need-returns
 unfolding readLine lineKinds
-returns c = kind-told (c .before .before .before .before .args .text .now) (c .before .before .before .before .args .at) 0 lineKinds tt refl (c .before .before .before .before .pre) (sym (c .before .begins-at .ensures) ∙ c .if1 .taken) (omega arith)
+returns c =
+    let a = c .before .before .before .before .args in
+    kind-this (a .text .now) (a .at) _ _ _ refl (c .before .before .before .before .pre) (sym (c .before .begins-at .ensures) ∙ c .if1 .taken) (omega arith)
 
 slice-aggregate-begins-at-2 : tie.Need-slice-aggregate-begins-at-2
 slice-aggregate-begins-at-2 c = search needs
@@ -32,7 +73,9 @@ add-t18 c = search needs
 
 returns-2 : tie.Need-returns-2
 unfolding readLine lineKinds
-returns-2 c = kind-told (c .before .before .before .before .before .before .before .args .text .now) (c .before .before .before .before .before .before .before .args .at) 1 lineKinds ((sym (c .before .before .before .before .begins-at .ensures) ∙ c .before .before .before .if1 .left), tt) refl (c .before .before .before .before .before .before .before .pre) (sym (c .before .begins-at2 .ensures) ∙ c .if2 .taken) (omega arith)
+returns-2 c =
+    let a = c .before .before .before .before .before .before .before .args in
+    kind-this (a .text .now) (a .at) _ _ _ (passed-1 (c .before .before .before)) (c .before .before .before .before .before .before .before .pre) (sym (c .before .begins-at2 .ensures) ∙ c .if2 .taken) (omega arith)
 
 slice-aggregate-begins-at-3 : tie.Need-slice-aggregate-begins-at-3
 slice-aggregate-begins-at-3 c = search needs
@@ -45,7 +88,9 @@ add-t23 c = search needs
 
 returns-3 : tie.Need-returns-3
 unfolding readLine lineKinds
-returns-3 c = kind-told (c .before .before .before .before .before .before .before .before .before .before .args .text .now) (c .before .before .before .before .before .before .before .before .before .before .args .at) 2 lineKinds ((sym (c .before .before .before .before .before .before .before .begins-at .ensures) ∙ c .before .before .before .before .before .before .if1 .left), ((sym (c .before .before .before .before .begins-at2 .ensures) ∙ c .before .before .before .if2 .left), tt)) refl (c .before .before .before .before .before .before .before .before .before .before .pre) (sym (c .before .begins-at3 .ensures) ∙ c .if3 .taken) (omega arith)
+returns-3 c =
+    let a = c .before .before .before .before .before .before .before .before .before .before .args in
+    kind-this (a .text .now) (a .at) _ _ _ (passed-2 (c .before .before .before)) (c .before .before .before .before .before .before .before .before .before .before .pre) (sym (c .before .begins-at3 .ensures) ∙ c .if3 .taken) (omega arith)
 
 slice-aggregate-begins-at-4 : tie.Need-slice-aggregate-begins-at-4
 slice-aggregate-begins-at-4 c = search needs
@@ -58,7 +103,9 @@ add-t28 c = search needs
 
 returns-4 : tie.Need-returns-4
 unfolding readLine lineKinds
-returns-4 c = kind-told (c .before .before .before .before .before .before .before .before .before .before .before .before .before .args .text .now) (c .before .before .before .before .before .before .before .before .before .before .before .before .before .args .at) 3 lineKinds ((sym (c .before .before .before .before .before .before .before .before .before .before .begins-at .ensures) ∙ c .before .before .before .before .before .before .before .before .before .if1 .left), ((sym (c .before .before .before .before .before .before .before .begins-at2 .ensures) ∙ c .before .before .before .before .before .before .if2 .left), ((sym (c .before .before .before .before .begins-at3 .ensures) ∙ c .before .before .before .if3 .left), tt))) refl (c .before .before .before .before .before .before .before .before .before .before .before .before .before .pre) (sym (c .before .begins-at4 .ensures) ∙ c .if4 .taken) (omega arith)
+returns-4 c =
+    let a = c .before .before .before .before .before .before .before .before .before .before .before .before .before .args in
+    kind-this (a .text .now) (a .at) _ _ _ (passed-3 (c .before .before .before)) (c .before .before .before .before .before .before .before .before .before .before .before .before .before .pre) (sym (c .before .begins-at4 .ensures) ∙ c .if4 .taken) (omega arith)
 
 slice-aggregate-begins-at-5 : tie.Need-slice-aggregate-begins-at-5
 slice-aggregate-begins-at-5 c = search needs
@@ -71,7 +118,9 @@ add-t33 c = search needs
 
 returns-5 : tie.Need-returns-5
 unfolding readLine lineKinds
-returns-5 c = kind-told (c .before .before .before .before .before .before .before .before .before .before .before .before .before .before .before .before .args .text .now) (c .before .before .before .before .before .before .before .before .before .before .before .before .before .before .before .before .args .at) 4 lineKinds ((sym (c .before .before .before .before .before .before .before .before .before .before .before .before .before .begins-at .ensures) ∙ c .before .before .before .before .before .before .before .before .before .before .before .before .if1 .left), ((sym (c .before .before .before .before .before .before .before .before .before .before .begins-at2 .ensures) ∙ c .before .before .before .before .before .before .before .before .before .if2 .left), ((sym (c .before .before .before .before .before .before .before .begins-at3 .ensures) ∙ c .before .before .before .before .before .before .if3 .left), ((sym (c .before .before .before .before .begins-at4 .ensures) ∙ c .before .before .before .if4 .left), tt)))) refl (c .before .before .before .before .before .before .before .before .before .before .before .before .before .before .before .before .pre) (sym (c .before .begins-at5 .ensures) ∙ c .if5 .taken) (omega arith)
+returns-5 c =
+    let a = c .before .before .before .before .before .before .before .before .before .before .before .before .before .before .before .before .args in
+    kind-this (a .text .now) (a .at) _ _ _ (passed-4 (c .before .before .before)) (c .before .before .before .before .before .before .before .before .before .before .before .before .before .before .before .before .pre) (sym (c .before .begins-at5 .ensures) ∙ c .if5 .taken) (omega arith)
 
 slice-aggregate-begins-at-6 : tie.Need-slice-aggregate-begins-at-6
 slice-aggregate-begins-at-6 c = search needs
@@ -84,14 +133,15 @@ add-t38 c = search needs
 
 returns-6 : tie.Need-returns-6
 unfolding readLine lineKinds
-returns-6 c = kind-told (c .before .before .before .before .before .before .before .before .before .before .before .before .before .before .before .before .before .before .before .args .text .now) (c .before .before .before .before .before .before .before .before .before .before .before .before .before .before .before .before .before .before .before .args .at) 5 lineKinds ((sym (c .before .before .before .before .before .before .before .before .before .before .before .before .before .before .before .before .begins-at .ensures) ∙ c .before .before .before .before .before .before .before .before .before .before .before .before .before .before .before .if1 .left), ((sym (c .before .before .before .before .before .before .before .before .before .before .before .before .before .begins-at2 .ensures) ∙ c .before .before .before .before .before .before .before .before .before .before .before .before .if2 .left), ((sym (c .before .before .before .before .before .before .before .before .before .before .begins-at3 .ensures) ∙ c .before .before .before .before .before .before .before .before .before .if3 .left), ((sym (c .before .before .before .before .before .before .before .begins-at4 .ensures) ∙ c .before .before .before .before .before .before .if4 .left), ((sym (c .before .before .before .before .begins-at5 .ensures) ∙ c .before .before .before .if5 .left), tt))))) refl (c .before .before .before .before .before .before .before .before .before .before .before .before .before .before .before .before .before .before .before .pre) (sym (c .before .begins-at6 .ensures) ∙ c .if6 .taken) (omega arith)
+returns-6 c =
+    let a = c .before .before .before .before .before .before .before .before .before .before .before .before .before .before .before .before .before .before .before .args in
+    kind-this (a .text .now) (a .at) _ _ _ (passed-5 (c .before .before .before)) (c .before .before .before .before .before .before .before .before .before .before .before .before .before .before .before .before .before .before .before .pre) (sym (c .before .begins-at6 .ensures) ∙ c .if6 .taken) (omega arith)
 
 other-kind-at-requires : tie.Need-other-kind-at-requires
 other-kind-at-requires c κs = search needs
 
 returns-7 : tie.Need-returns-7
-unfolding readLine lineKinds
-returns-7 c = rw (kinds-passed (c .before .before .before .before .before .before .before .before .before .before .before .before .before .before .before .before .before .before .before .before .args .text .now) (c .before .before .before .before .before .before .before .before .before .before .before .before .before .before .before .before .before .before .before .before .args .at) 6 lineKinds ((sym (c .before .before .before .before .before .before .before .before .before .before .before .before .before .before .before .before .before .begins-at .ensures) ∙ c .before .before .before .before .before .before .before .before .before .before .before .before .before .before .before .before .if1 .left), ((sym (c .before .before .before .before .before .before .before .before .before .before .before .before .before .before .begins-at2 .ensures) ∙ c .before .before .before .before .before .before .before .before .before .before .before .before .before .if2 .left), ((sym (c .before .before .before .before .before .before .before .before .before .before .before .begins-at3 .ensures) ∙ c .before .before .before .before .before .before .before .before .before .before .if3 .left), ((sym (c .before .before .before .before .before .before .before .before .begins-at4 .ensures) ∙ c .before .before .before .before .before .before .before .if4 .left), ((sym (c .before .before .before .before .before .begins-at5 .ensures) ∙ c .before .before .before .before .if5 .left), ((sym (c .before .before .begins-at6 .ensures) ∙ c .before .if6 .left), tt))))))) (c .other-kind-at .ensures)
+returns-7 c = rw (passed-6 (c .before)) (c .other-kind-at .ensures)
 
 pub kind-at-spec : {M : Type 1} → statement M
 kind-at-spec =

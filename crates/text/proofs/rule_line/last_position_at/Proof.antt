@@ -3,10 +3,15 @@
 use borrow.Author.Needs.{needs}
 use mathlib.Core.Path.{_≡_, subst}
 use Rattle.text.specs.Bytes.{bytes}
-use Rattle.text.specs.memory.RuleLines.{ToldWord, ToldPosition}
+use Rattle.text.specs.memory.RuleLines.{ToldWord, PositionFound, ToldPosition}
 use Rattle.text.proofs.LinePlaces.{last-refused, last-open, last-found}
 use Rattle.text.proofs.rule_line.last_position_at.Statement.{statement}
 use Rattle.text.proofs.rule_line.last_position_at.Tie as tie
+
+position : (c : tie.After-name) → let a = c .before .before .before .before .args in PositionFound (a .text .now) (a .at) (c .name .given .0 .0) (c .name .given .0 .1 .0) (c .name .given .0 .1 .1 .0) (c .name .given .0 .1 .1 .1 .0)
+position c =
+    let a = c .before .before .before .before .args in
+    subst (ToldPosition (a .text .now) (a .at)) (c .name .given .1) (c .before .before .position-at .ensures)
 
 position-at-requires : tie.Need-position-at-requires
 position-at-requires c κs = search needs
@@ -18,13 +23,15 @@ enum-told : tie.Need-enum-told
 enum-told c = search needs
 
 returns : tie.Need-returns
-returns c = last-refused (subst (ToldPosition (c .before .before .before .before .args .text .now) (c .before .before .before .before .args .at)) (c .enum-told .given .1) (c .before .before .position-at .ensures))
+returns c =
+    let a = c .before .before .before .before .args in
+    last-refused (subst (ToldPosition (a .text .now) (a .at)) (c .enum-told .given .1) (c .before .before .position-at .ensures))
 
 slice-aggregate-word-end : tie.Need-slice-aggregate-word-end
 slice-aggregate-word-end c = search needs
 
 word-end-requires : tie.Need-word-end-requires
-word-end-requires c κs = let read = (subst (ToldPosition (c .before .before .before .before .before .before .args .text .now) (c .before .before .before .before .before .before .args .at)) (c .before .before .name .given .1) (c .before .before .before .before .position-at .ensures)) in read .found .within
+word-end-requires c κs = position (c .before .before) .found .within
 
 enum-known-end : tie.Need-enum-known-end
 enum-known-end c = search needs
@@ -34,13 +41,13 @@ enum-told-2 c = search needs
 
 returns-2 : tie.Need-returns-2
 returns-2 c =
-    last-open (subst (ToldPosition (c .before .before .before .before .before .before .before .before .before .args .text .now) (c .before .before .before .before .before .before .before .before .before .args .at)) (c .before .before .before .before .before .name .given .1) (c .before .before .before .before .before .before .before .position-at .ensures))
-    (subst (ToldWord (bytes "\n") (c .before .before .before .before .before .before .before .before .before .args .text .now) (c .before .before .before .before .before .name .given .0 .1 .1 .1 .0)) (c .enum-told2 .given .1) (c .before .before .word-end .ensures))
+    let a = c .before .before .before .before .before .before .before .before .before .args in
+    last-open (position (c .before .before .before .before .before)) (subst (ToldWord (bytes "\n") (a .text .now) (c .before .before .before .before .before .name .given .0 .1 .1 .1 .0)) (c .enum-told2 .given .1) (c .before .before .word-end .ensures))
 
 returns-3 : tie.Need-returns-3
 returns-3 c =
-    last-found (subst (ToldPosition (c .before .before .before .before .before .before .before .before .before .before .args .text .now) (c .before .before .before .before .before .before .before .before .before .before .args .at)) (c .before .before .before .before .before .before .name .given .1) (c .before .before .before .before .before .before .before .before .position-at .ensures))
-    (subst (ToldWord (bytes "\n") (c .before .before .before .before .before .before .before .before .before .before .args .text .now) (c .before .before .before .before .before .before .name .given .0 .1 .1 .1 .0)) (c .before .end .given .1) (c .before .before .before .word-end .ensures))
+    let a = c .before .before .before .before .before .before .before .before .before .before .args in
+    last-found (position (c .before .before .before .before .before .before)) (subst (ToldWord (bytes "\n") (a .text .now) (c .before .before .before .before .before .before .name .given .0 .1 .1 .1 .0)) (c .before .end .given .1) (c .before .before .before .word-end .ensures))
 
 pub last-position-at-spec : {M : Type 1} → statement M
 last-position-at-spec =

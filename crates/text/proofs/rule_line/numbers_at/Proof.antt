@@ -5,7 +5,7 @@ use mathlib.Core.Path.{_≡_, sym, _∙_, subst}
 use native.Mathlib.Omega.{arith}
 use Prim.Native.Nat.{_-_}
 use lib.ListN.{length}
-use Rattle.text.specs.memory.RuleLines.{ToldRanged, RangedFound}
+use Rattle.text.specs.memory.RuleLines.{RangedFound, ToldRanged}
 use Rattle.text.proofs.LinePlaces.{NumbersPassed, numbers-first, numbers-refused, numbers-last, numbers-on}
 use Rattle.text.proofs.rule_line.numbers_at.Statement.{statement}
 use Rattle.text.proofs.rule_line.numbers_at.Tie as tie
@@ -16,8 +16,15 @@ Inv-loop text at least greatest i₀ many₀ i many = NumbersPassed least greate
 abbrev μ-loop : tie.MeasureT-loop
 μ-loop text at least greatest i₀ many₀ i many = length text - i
 
+found : (c : tie.After-next Inv-loop μ-loop) → let a = c .before .before .before .before .before .args in RangedFound (a .least) (a .greatest) (a .text .now) (c .before .before .before .loop .i) (c .next .given .0 .0) (c .next .given .0 .1 .0)
+found c =
+    let a = c .before .before .before .before .before .args in
+    subst (ToldRanged (a .least) (a .greatest) (a .text .now) (c .before .before .before .loop .i)) (c .next .given .1) (c .before .before .ranged-at .ensures)
+
 loop-holds : tie.Need-loop-holds Inv-loop μ-loop
-loop-holds c = numbers-first (c .before .args .least) (c .before .args .greatest) (c .before .args .text .now) (c .before .args .at) (c .before .pre .0)
+loop-holds c =
+    let a = c .before .args in
+    numbers-first (a .least) (a .greatest) (a .text .now) (a .at) (c .before .pre .0)
 
 ranged-at-requires : tie.Need-ranged-at-requires Inv-loop μ-loop
 ranged-at-requires c κs = search needs
@@ -26,7 +33,7 @@ enum-known-next : tie.Need-enum-known-next Inv-loop μ-loop
 enum-known-next c = search needs
 
 add-many : tie.Need-add-many Inv-loop μ-loop
-add-many c = let f = subst (ToldRanged (c .before .before .before .before .before .before .args .least) (c .before .before .before .before .before .before .args .greatest) (c .before .before .before .before .before .before .args .text .now) (c .before .before .before .before .loop .i)) (c .before .next .given .1) (c .before .before .before .ranged-at .ensures) in omega (arith, f .found .within, c .before .before .before .before .loop .inv .few, f .after)
+add-many c = let f = found (c .before) in omega (arith, f .found .within, c .before .before .before .before .loop .inv .few, f .after)
 
 peek-requires : tie.Need-peek-requires Inv-loop μ-loop
 peek-requires c κs = search needs
@@ -34,18 +41,18 @@ peek-requires c κs = search needs
 returns : tie.Need-returns Inv-loop μ-loop
 returns c =
     let a = c .before .before .before .before .before .before .before .before .args in
-    numbers-last (a .least) (a .greatest) (a .text .now) (a .at) (c .before .before .before .before .before .before .loop .i) (c .before .before .before .before .before .before .loop .many) (c .before .before .before .before .before .before .loop .inv) _ _ (subst (ToldRanged (c .before .before .before .before .before .before .before .before .args .least) (c .before .before .before .before .before .before .before .before .args .greatest) (c .before .before .before .before .before .before .before .before .args .text .now) (c .before .before .before .before .before .before .loop .i)) (c .before .before .before .next .given .1) (c .before .before .before .before .before .ranged-at .ensures)) (λ e. c .if1 .taken (c .before .peek .ensures ∙ e))
+    numbers-last (a .least) (a .greatest) (a .text .now) (a .at) (c .before .before .before .before .before .before .loop .i) (c .before .before .before .before .before .before .loop .many) (c .before .before .before .before .before .before .loop .inv) _ _ (found (c .before .before .before)) (λ e. c .if1 .taken (c .before .peek .ensures ∙ e))
 
 add-i : tie.Need-add-i Inv-loop μ-loop
-add-i c = let f = subst (ToldRanged (c .before .before .before .before .before .before .before .before .args .least) (c .before .before .before .before .before .before .before .before .args .greatest) (c .before .before .before .before .before .before .before .before .args .text .now) (c .before .before .before .before .before .before .loop .i)) (c .before .before .before .next .given .1) (c .before .before .before .before .before .ranged-at .ensures) in omega (arith, f .found .within)
+add-i c = let f = found (c .before .before .before) in omega (arith, f .found .within)
 
 loop-less : tie.Need-loop-less Inv-loop μ-loop
-loop-less c = let f = subst (ToldRanged (c .before .before .before .before .before .before .before .before .args .least) (c .before .before .before .before .before .before .before .before .args .greatest) (c .before .before .before .before .before .before .before .before .args .text .now) (c .before .before .before .before .before .before .loop .i)) (c .before .before .before .next .given .1) (c .before .before .before .before .before .ranged-at .ensures) in omega (arith, f .found .within, f .after, c .before .before .before .before .before .before .loop .inv .within)
+loop-less c = let f = found (c .before .before .before) in omega (arith, f .found .within, f .after, c .before .before .before .before .before .before .loop .inv .within)
 
 loop-again : tie.Need-loop-again Inv-loop μ-loop
 loop-again c =
     let a = c .before .before .before .before .before .before .before .before .args in
-    numbers-on (a .least) (a .greatest) (a .text .now) (a .at) (c .before .before .before .before .before .before .loop .i) (c .before .before .before .before .before .before .loop .many) (c .before .before .before .before .before .before .loop .inv) _ _ (subst (ToldRanged (c .before .before .before .before .before .before .before .before .args .least) (c .before .before .before .before .before .before .before .before .args .greatest) (c .before .before .before .before .before .before .before .before .args .text .now) (c .before .before .before .before .before .before .loop .i)) (c .before .before .before .next .given .1) (c .before .before .before .before .before .ranged-at .ensures)) (sym (c .before .peek .ensures) ∙ c .if1 .left)
+    numbers-on (a .least) (a .greatest) (a .text .now) (a .at) (c .before .before .before .before .before .before .loop .i) (c .before .before .before .before .before .before .loop .many) (c .before .before .before .before .before .before .loop .inv) _ _ (found (c .before .before .before)) (sym (c .before .peek .ensures) ∙ c .if1 .left)
 
 enum-told : tie.Need-enum-told Inv-loop μ-loop
 enum-told c = search needs

@@ -4,10 +4,36 @@ use borrow.Author.Needs.{needs}
 use native.Mathlib.Omega.{arith}
 use mathlib.Core.Path.{_≡_, refl, sym, _∙_}
 use lib.ListN.{drop}
+use Rattle.text.specs.Reading.{refuse, oneOf}
 use Rattle.text.specs.Derivation.{lineKinds}
-use Rattle.text.proofs.LinePlaces.{kind-told, kind-unknown}
+use Rattle.text.proofs.LinePlaces.{kind-other, kind-this, kind-none}
 use Rattle.text.proofs.rule_line.other_kind_at.Statement.{statement}
 use Rattle.text.proofs.rule_line.other_kind_at.Tie as tie
+
+-- after each word that does not stand there
+passed-1 : (c : tie.Else1) → let a = c .before .before .before .before .args in oneOf (drop 6 lineKinds) (refuse 10) (drop (a .at) (a .text .now)) ≡ oneOf (drop 7 lineKinds) (refuse 10) (drop (a .at) (a .text .now))
+unfolding lineKinds
+passed-1 c =
+    let a = c .before .before .before .before .args in
+    kind-other (a .text .now) (a .at) _ _ _ refl (sym (c .before .begins-at .ensures) ∙ c .if1 .left)
+
+passed-2 : (c : tie.Else2) → let a = c .before .before .before .before .before .before .before .args in oneOf (drop 6 lineKinds) (refuse 10) (drop (a .at) (a .text .now)) ≡ oneOf (drop 8 lineKinds) (refuse 10) (drop (a .at) (a .text .now))
+unfolding lineKinds
+passed-2 c =
+    let a = c .before .before .before .before .before .before .before .args in
+    kind-other (a .text .now) (a .at) _ _ _ (passed-1 (c .before .before .before)) (sym (c .before .begins-at2 .ensures) ∙ c .if2 .left)
+
+passed-3 : (c : tie.Else3) → let a = c .before .before .before .before .before .before .before .before .before .before .args in oneOf (drop 6 lineKinds) (refuse 10) (drop (a .at) (a .text .now)) ≡ oneOf (drop 9 lineKinds) (refuse 10) (drop (a .at) (a .text .now))
+unfolding lineKinds
+passed-3 c =
+    let a = c .before .before .before .before .before .before .before .before .before .before .args in
+    kind-other (a .text .now) (a .at) _ _ _ (passed-2 (c .before .before .before)) (sym (c .before .begins-at3 .ensures) ∙ c .if3 .left)
+
+passed-4 : (c : tie.Else4) → let a = c .before .before .before .before .before .before .before .before .before .before .before .before .before .args in oneOf (drop 6 lineKinds) (refuse 10) (drop (a .at) (a .text .now)) ≡ oneOf (drop 10 lineKinds) (refuse 10) (drop (a .at) (a .text .now))
+unfolding lineKinds
+passed-4 c =
+    let a = c .before .before .before .before .before .before .before .before .before .before .before .before .before .args in
+    kind-other (a .text .now) (a .at) _ _ _ (passed-3 (c .before .before .before)) (sym (c .before .begins-at4 .ensures) ∙ c .if4 .left)
 
 slice-aggregate-begins-at : tie.Need-slice-aggregate-begins-at
 slice-aggregate-begins-at c = search needs
@@ -20,7 +46,9 @@ add-t10 c = search needs
 
 returns : tie.Need-returns
 unfolding lineKinds
-returns c = kind-told (c .before .before .before .before .args .text .now) (c .before .before .before .before .args .at) 0 (drop 6 lineKinds) tt refl (c .before .before .before .before .pre) (sym (c .before .begins-at .ensures) ∙ c .if1 .taken) (omega arith)
+returns c =
+    let a = c .before .before .before .before .args in
+    kind-this (a .text .now) (a .at) _ _ _ refl (c .before .before .before .before .pre) (sym (c .before .begins-at .ensures) ∙ c .if1 .taken) (omega arith)
 
 slice-aggregate-begins-at-2 : tie.Need-slice-aggregate-begins-at-2
 slice-aggregate-begins-at-2 c = search needs
@@ -33,7 +61,9 @@ add-t14 c = search needs
 
 returns-2 : tie.Need-returns-2
 unfolding lineKinds
-returns-2 c = kind-told (c .before .before .before .before .before .before .before .args .text .now) (c .before .before .before .before .before .before .before .args .at) 1 (drop 6 lineKinds) ((sym (c .before .before .before .before .begins-at .ensures) ∙ c .before .before .before .if1 .left), tt) refl (c .before .before .before .before .before .before .before .pre) (sym (c .before .begins-at2 .ensures) ∙ c .if2 .taken) (omega arith)
+returns-2 c =
+    let a = c .before .before .before .before .before .before .before .args in
+    kind-this (a .text .now) (a .at) _ _ _ (passed-1 (c .before .before .before)) (c .before .before .before .before .before .before .before .pre) (sym (c .before .begins-at2 .ensures) ∙ c .if2 .taken) (omega arith)
 
 slice-aggregate-begins-at-3 : tie.Need-slice-aggregate-begins-at-3
 slice-aggregate-begins-at-3 c = search needs
@@ -46,7 +76,9 @@ add-t18 c = search needs
 
 returns-3 : tie.Need-returns-3
 unfolding lineKinds
-returns-3 c = kind-told (c .before .before .before .before .before .before .before .before .before .before .args .text .now) (c .before .before .before .before .before .before .before .before .before .before .args .at) 2 (drop 6 lineKinds) ((sym (c .before .before .before .before .before .before .before .begins-at .ensures) ∙ c .before .before .before .before .before .before .if1 .left), ((sym (c .before .before .before .before .begins-at2 .ensures) ∙ c .before .before .before .if2 .left), tt)) refl (c .before .before .before .before .before .before .before .before .before .before .pre) (sym (c .before .begins-at3 .ensures) ∙ c .if3 .taken) (omega arith)
+returns-3 c =
+    let a = c .before .before .before .before .before .before .before .before .before .before .args in
+    kind-this (a .text .now) (a .at) _ _ _ (passed-2 (c .before .before .before)) (c .before .before .before .before .before .before .before .before .before .before .pre) (sym (c .before .begins-at3 .ensures) ∙ c .if3 .taken) (omega arith)
 
 slice-aggregate-begins-at-4 : tie.Need-slice-aggregate-begins-at-4
 slice-aggregate-begins-at-4 c = search needs
@@ -59,11 +91,15 @@ add-t22 c = search needs
 
 returns-4 : tie.Need-returns-4
 unfolding lineKinds
-returns-4 c = kind-told (c .before .before .before .before .before .before .before .before .before .before .before .before .before .args .text .now) (c .before .before .before .before .before .before .before .before .before .before .before .before .before .args .at) 3 (drop 6 lineKinds) ((sym (c .before .before .before .before .before .before .before .before .before .before .begins-at .ensures) ∙ c .before .before .before .before .before .before .before .before .before .if1 .left), ((sym (c .before .before .before .before .before .before .before .begins-at2 .ensures) ∙ c .before .before .before .before .before .before .if2 .left), ((sym (c .before .before .before .before .begins-at3 .ensures) ∙ c .before .before .before .if3 .left), tt))) refl (c .before .before .before .before .before .before .before .before .before .before .before .before .before .pre) (sym (c .before .begins-at4 .ensures) ∙ c .if4 .taken) (omega arith)
+returns-4 c =
+    let a = c .before .before .before .before .before .before .before .before .before .before .before .before .before .args in
+    kind-this (a .text .now) (a .at) _ _ _ (passed-3 (c .before .before .before)) (c .before .before .before .before .before .before .before .before .before .before .before .before .before .pre) (sym (c .before .begins-at4 .ensures) ∙ c .if4 .taken) (omega arith)
 
 returns-5 : tie.Need-returns-5
 unfolding lineKinds
-returns-5 c = kind-unknown (c .before .before .before .before .before .before .before .before .before .before .before .before .before .args .text .now) (c .before .before .before .before .before .before .before .before .before .before .before .before .before .args .at) 4 (drop 6 lineKinds) ((sym (c .before .before .before .before .before .before .before .before .before .before .begins-at .ensures) ∙ c .before .before .before .before .before .before .before .before .before .if1 .left), ((sym (c .before .before .before .before .before .before .before .begins-at2 .ensures) ∙ c .before .before .before .before .before .before .if2 .left), ((sym (c .before .before .before .before .begins-at3 .ensures) ∙ c .before .before .before .if3 .left), ((sym (c .before .begins-at4 .ensures) ∙ c .if4 .left), tt)))) refl
+returns-5 c =
+    let a = c .before .before .before .before .before .before .before .before .before .before .before .before .before .args in
+    kind-none (a .text .now) (a .at) (passed-4 (c))
 
 pub other-kind-at-spec : {M : Type 1} → statement M
 other-kind-at-spec =

@@ -6,10 +6,21 @@ use native.Mathlib.Omega.{arith}
 use Rattle.text.specs.Bytes.{bytes}
 use Rattle.text.specs.Reading.{separated}
 use Rattle.text.specs.Derivation.{readRanged}
-use Rattle.text.specs.memory.RuleLines.{ToldWord, ToldNumbers}
+use Rattle.text.specs.memory.Found.{WordFound}
+use Rattle.text.specs.memory.RuleLines.{ToldWord, NumbersFound, ToldNumbers}
 use Rattle.text.proofs.LinePlaces.{path-none, path-refused, path-open, path-found}
 use Rattle.text.proofs.rule_line.path_at.Statement.{statement}
 use Rattle.text.proofs.rule_line.path_at.Tie as tie
+
+bracket : (c : tie.After-start) → let a = c .before .before .before .before .before .args in WordFound (bytes "[") (a .text .now) (a .at) (c .start .given .0 .0)
+bracket c =
+    let a = c .before .before .before .before .before .args in
+    subst (ToldWord (bytes "[") (a .text .now) (a .at)) (c .start .given .1) (c .before .before .word-end .ensures)
+
+numbers : (c : tie.After-first) → let a = c .before .before .before .before .before .before .before .before .before .args in NumbersFound (separated 44 (readRanged 0 4095)) (a .text .now) (c .before .before .before .before .start .given .0 .0) (c .first .given .0 .0) (c .first .given .0 .1 .0) (c .first .given .0 .1 .1 .0)
+numbers c =
+    let a = c .before .before .before .before .before .before .before .before .before .args in
+    subst (ToldNumbers (separated 44 (readRanged 0 4095)) (a .text .now) (c .before .before .before .before .start .given .0 .0)) (c .first .given .1) (c .before .before .numbers-at .ensures)
 
 slice-aggregate-word-end : tie.Need-slice-aggregate-word-end
 slice-aggregate-word-end c = search needs
@@ -24,10 +35,12 @@ enum-told : tie.Need-enum-told
 enum-told c = search needs
 
 returns : tie.Need-returns
-returns c = path-none (subst (ToldWord (bytes "[") (c .before .before .before .before .before .args .text .now) (c .before .before .before .before .before .args .at)) (c .enum-told .given .1) (c .before .before .word-end .ensures)) (c .before .before .before .before .before .pre)
+returns c =
+    let a = c .before .before .before .before .before .args in
+    path-none (subst (ToldWord (bytes "[") (a .text .now) (a .at)) (c .enum-told .given .1) (c .before .before .word-end .ensures)) (c .before .before .before .before .before .pre)
 
 numbers-at-requires : tie.Need-numbers-at-requires
-numbers-at-requires c κs = let opened = (subst (ToldWord (bytes "[") (c .before .before .before .before .before .before .args .text .now) (c .before .before .before .before .before .before .args .at)) (c .before .start .given .1) (c .before .before .before .word-end .ensures)) in (opened .within, omega arith)
+numbers-at-requires c κs = (bracket (c .before) .within, omega arith)
 
 enum-known-first : tie.Need-enum-known-first
 enum-known-first c = search needs
@@ -37,14 +50,14 @@ enum-told-2 c = search needs
 
 returns-2 : tie.Need-returns-2
 returns-2 c =
-    path-refused (subst (ToldWord (bytes "[") (c .before .before .before .before .before .before .before .before .before .args .text .now) (c .before .before .before .before .before .before .before .before .before .args .at)) (c .before .before .before .before .start .given .1) (c .before .before .before .before .before .before .word-end .ensures))
-    (subst (ToldNumbers (separated 44 (readRanged 0 4095)) (c .before .before .before .before .before .before .before .before .before .args .text .now) (c .before .before .before .before .start .given .0 .0)) (c .enum-told2 .given .1) (c .before .before .numbers-at .ensures))
+    let a = c .before .before .before .before .before .before .before .before .before .args in
+    path-refused (bracket (c .before .before .before .before)) (subst (ToldNumbers (separated 44 (readRanged 0 4095)) (a .text .now) (c .before .before .before .before .start .given .0 .0)) (c .enum-told2 .given .1) (c .before .before .numbers-at .ensures))
 
 slice-aggregate-word-end-2 : tie.Need-slice-aggregate-word-end-2
 slice-aggregate-word-end-2 c = search needs
 
 word-end-requires-2 : tie.Need-word-end-requires-2
-word-end-requires-2 c κs = let read = (subst (ToldNumbers (separated 44 (readRanged 0 4095)) (c .before .before .before .before .before .before .before .before .before .before .before .args .text .now) (c .before .before .before .before .before .before .start .given .0 .0)) (c .before .before .first .given .1) (c .before .before .before .before .numbers-at .ensures)) in read .found .within
+word-end-requires-2 c κs = numbers (c .before .before) .found .within
 
 enum-known-end : tie.Need-enum-known-end
 enum-known-end c = search needs
@@ -54,15 +67,13 @@ enum-told-3 c = search needs
 
 returns-3 : tie.Need-returns-3
 returns-3 c =
-    path-open (subst (ToldWord (bytes "[") (c .before .before .before .before .before .before .before .before .before .before .before .before .before .before .args .text .now) (c .before .before .before .before .before .before .before .before .before .before .before .before .before .before .args .at)) (c .before .before .before .before .before .before .before .before .before .start .given .1) (c .before .before .before .before .before .before .before .before .before .before .before .word-end .ensures))
-    (subst (ToldNumbers (separated 44 (readRanged 0 4095)) (c .before .before .before .before .before .before .before .before .before .before .before .before .before .before .args .text .now) (c .before .before .before .before .before .before .before .before .before .start .given .0 .0)) (c .before .before .before .before .before .first .given .1) (c .before .before .before .before .before .before .before .numbers-at .ensures))
-    (subst (ToldWord (bytes "]") (c .before .before .before .before .before .before .before .before .before .before .before .before .before .before .args .text .now) (c .before .before .before .before .before .first .given .0 .1 .1 .0)) (c .enum-told3 .given .1) (c .before .before .word-end2 .ensures))
+    let a = c .before .before .before .before .before .before .before .before .before .before .before .before .before .before .args in
+    path-open (bracket (c .before .before .before .before .before .before .before .before .before)) (numbers (c .before .before .before .before .before)) (subst (ToldWord (bytes "]") (a .text .now) (c .before .before .before .before .before .first .given .0 .1 .1 .0)) (c .enum-told3 .given .1) (c .before .before .word-end2 .ensures))
 
 returns-4 : tie.Need-returns-4
 returns-4 c =
-    path-found (subst (ToldWord (bytes "[") (c .before .before .before .before .before .before .before .before .before .before .before .before .before .before .before .args .text .now) (c .before .before .before .before .before .before .before .before .before .before .before .before .before .before .before .args .at)) (c .before .before .before .before .before .before .before .before .before .before .start .given .1) (c .before .before .before .before .before .before .before .before .before .before .before .before .word-end .ensures))
-    (subst (ToldNumbers (separated 44 (readRanged 0 4095)) (c .before .before .before .before .before .before .before .before .before .before .before .before .before .before .before .args .text .now) (c .before .before .before .before .before .before .before .before .before .before .start .given .0 .0)) (c .before .before .before .before .before .before .first .given .1) (c .before .before .before .before .before .before .before .before .numbers-at .ensures))
-    (subst (ToldWord (bytes "]") (c .before .before .before .before .before .before .before .before .before .before .before .before .before .before .before .args .text .now) (c .before .before .before .before .before .before .first .given .0 .1 .1 .0)) (c .before .end .given .1) (c .before .before .before .word-end2 .ensures))
+    let a = c .before .before .before .before .before .before .before .before .before .before .before .before .before .before .before .args in
+    path-found (bracket (c .before .before .before .before .before .before .before .before .before .before)) (numbers (c .before .before .before .before .before .before)) (subst (ToldWord (bytes "]") (a .text .now) (c .before .before .before .before .before .before .first .given .0 .1 .1 .0)) (c .before .end .given .1) (c .before .before .before .word-end2 .ensures))
 
 pub path-at-spec : {M : Type 1} → statement M
 path-at-spec =

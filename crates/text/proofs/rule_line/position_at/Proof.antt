@@ -3,10 +3,15 @@
 use borrow.Author.Needs.{needs}
 use mathlib.Core.Path.{_≡_, subst}
 use Rattle.text.specs.Derivation.{readPath}
-use Rattle.text.specs.memory.RuleLines.{ToldRanged, ToldNumbers}
+use Rattle.text.specs.memory.RuleLines.{RangedFound, ToldRanged, ToldNumbers}
 use Rattle.text.proofs.LinePlaces.{position-unnamed, position-refused, position-found}
 use Rattle.text.proofs.rule_line.position_at.Statement.{statement}
 use Rattle.text.proofs.rule_line.position_at.Tie as tie
+
+name : (c : tie.After-number) → let a = c .before .before .before .before .args in RangedFound 1 65535 (a .text .now) (a .at) (c .number .given .0 .0) (c .number .given .0 .1 .0)
+name c =
+    let a = c .before .before .before .before .args in
+    subst (ToldRanged 1 65535 (a .text .now) (a .at)) (c .number .given .1) (c .before .before .ranged-at .ensures)
 
 ranged-at-requires : tie.Need-ranged-at-requires
 ranged-at-requires c κs = search needs
@@ -18,10 +23,12 @@ enum-told : tie.Need-enum-told
 enum-told c = search needs
 
 returns : tie.Need-returns
-returns c = position-unnamed (subst (ToldRanged 1 65535 (c .before .before .before .before .args .text .now) (c .before .before .before .before .args .at)) (c .enum-told .given .1) (c .before .before .ranged-at .ensures))
+returns c =
+    let a = c .before .before .before .before .args in
+    position-unnamed (subst (ToldRanged 1 65535 (a .text .now) (a .at)) (c .enum-told .given .1) (c .before .before .ranged-at .ensures))
 
 path-at-requires : tie.Need-path-at-requires
-path-at-requires c κs = let named = (subst (ToldRanged 1 65535 (c .before .before .before .before .before .args .text .now) (c .before .before .before .before .before .args .at)) (c .before .number .given .1) (c .before .before .before .ranged-at .ensures)) in named .found .within
+path-at-requires c κs = name (c .before) .found .within
 
 enum-known-first : tie.Need-enum-known-first
 enum-known-first c = search needs
@@ -31,13 +38,13 @@ enum-told-2 c = search needs
 
 returns-2 : tie.Need-returns-2
 returns-2 c =
-    position-refused (subst (ToldRanged 1 65535 (c .before .before .before .before .before .before .before .before .args .text .now) (c .before .before .before .before .before .before .before .before .args .at)) (c .before .before .before .before .number .given .1) (c .before .before .before .before .before .before .ranged-at .ensures))
-    (subst (ToldNumbers readPath (c .before .before .before .before .before .before .before .before .args .text .now) (c .before .before .before .before .number .given .0 .1 .0)) (c .enum-told2 .given .1) (c .before .before .path-at .ensures))
+    let a = c .before .before .before .before .before .before .before .before .args in
+    position-refused (name (c .before .before .before .before)) (subst (ToldNumbers readPath (a .text .now) (c .before .before .before .before .number .given .0 .1 .0)) (c .enum-told2 .given .1) (c .before .before .path-at .ensures))
 
 returns-3 : tie.Need-returns-3
 returns-3 c =
-    position-found (subst (ToldRanged 1 65535 (c .before .before .before .before .before .before .before .before .before .args .text .now) (c .before .before .before .before .before .before .before .before .before .args .at)) (c .before .before .before .before .before .number .given .1) (c .before .before .before .before .before .before .before .ranged-at .ensures))
-    (subst (ToldNumbers readPath (c .before .before .before .before .before .before .before .before .before .args .text .now) (c .before .before .before .before .before .number .given .0 .1 .0)) (c .before .first .given .1) (c .before .before .before .path-at .ensures))
+    let a = c .before .before .before .before .before .before .before .before .before .args in
+    position-found (name (c .before .before .before .before .before)) (subst (ToldNumbers readPath (a .text .now) (c .before .before .before .before .before .number .given .0 .1 .0)) (c .before .first .given .1) (c .before .before .before .path-at .ensures))
 
 pub position-at-spec : {M : Type 1} → statement M
 position-at-spec =

@@ -2,10 +2,15 @@
 -- Assumes nothing.
 use borrow.Author.Needs.{needs}
 use mathlib.Core.Path.{_≡_, subst}
-use Rattle.text.specs.memory.Numbers.{ToldNumber}
+use Rattle.text.specs.memory.Numbers.{SmallFound, ToldNumber}
 use Rattle.text.proofs.LinePlaces.{ranged-inside, ranged-below, ranged-above, ranged-beyond, ranged-misspelled}
 use Rattle.text.proofs.rule_line.ranged_at.Statement.{statement}
 use Rattle.text.proofs.rule_line.ranged_at.Tie as tie
+
+small : (c : tie.After-next) → let a = c .before .before .before .before .args in SmallFound (a .text .now) (a .at) (c .next .given .0 .1 .0) (c .next .given .0 .0)
+small c =
+    let a = c .before .before .before .before .args in
+    subst (ToldNumber (a .text .now) (a .at)) (c .next .given .1) (c .before .before .number-at .ensures)
 
 number-at-requires : tie.Need-number-at-requires
 number-at-requires c κs = search needs
@@ -16,12 +21,12 @@ enum-known-next c = search needs
 returns : tie.Need-returns
 returns c =
     let a = c .before .before .before .before .before .before .args in
-    ranged-below (a .least) (a .greatest) (a .text .now) (a .at) (subst (ToldNumber (a .text .now) (a .at)) (c .before .before .next .given .1) (c .before .before .before .before .number-at .ensures)) (c .if1 .taken)
+    ranged-below (a .least) (a .greatest) (a .text .now) (a .at) (small (c .before .before)) (c .if1 .taken)
 
 returns-2 : tie.Need-returns-2
 returns-2 c =
     let a = c .before .before .before .before .before .before .before .args in
-    ranged-above (a .least) (a .greatest) (a .text .now) (a .at) (subst (ToldNumber (a .text .now) (a .at)) (c .before .before .before .next .given .1) (c .before .before .before .before .before .number-at .ensures)) (c .if2 .taken)
+    ranged-above (a .least) (a .greatest) (a .text .now) (a .at) (small (c .before .before .before)) (c .if2 .taken)
 
 enum-told : tie.Need-enum-told
 enum-told c = search needs
@@ -32,7 +37,7 @@ enum-told-2 c = search needs
 returns-3 : tie.Need-returns-3
 returns-3 c =
     let a = c .before .before .before .before .before .before .before .args in
-    ranged-inside (a .least) (a .greatest) (a .text .now) (a .at) (subst (ToldNumber (a .text .now) (a .at)) (c .before .before .before .next .given .1) (c .before .before .before .before .before .number-at .ensures)) (c .before .if1 .left) (c .if2 .left)
+    ranged-inside (a .least) (a .greatest) (a .text .now) (a .at) (small (c .before .before .before)) (c .before .if1 .left) (c .if2 .left)
 
 returns-4 : tie.Need-returns-4
 returns-4 c =

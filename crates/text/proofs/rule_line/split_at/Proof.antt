@@ -6,10 +6,26 @@ use native.Mathlib.Omega.{arith}
 use Rattle.text.specs.Bytes.{bytes}
 use Rattle.text.specs.Reading.{separated}
 use Rattle.text.specs.Derivation.{readRanged}
-use Rattle.text.specs.memory.RuleLines.{ToldWord, ToldNumbers, ToldPosition}
+use Rattle.text.specs.memory.Found.{WordFound}
+use Rattle.text.specs.memory.RuleLines.{ToldWord, NumbersFound, ToldNumbers, PositionFound, ToldPosition}
 use Rattle.text.proofs.LinePlaces.{split-refused, split-unmarked, split-unnamed, split-open, split-found}
 use Rattle.text.proofs.rule_line.split_at.Statement.{statement}
 use Rattle.text.proofs.rule_line.split_at.Tie as tie
+
+position : (c : tie.After-name) → let a = c .before .before .before .before .args in PositionFound (a .text .now) (a .at) (c .name .given .0 .0) (c .name .given .0 .1 .0) (c .name .given .0 .1 .1 .0) (c .name .given .0 .1 .1 .1 .0)
+position c =
+    let a = c .before .before .before .before .args in
+    subst (ToldPosition (a .text .now) (a .at)) (c .name .given .1) (c .before .before .position-at .ensures)
+
+arrow : (c : tie.After-start) → let a = c .before .before .before .before .before .before .before .before .before .args in WordFound (bytes " -> ") (a .text .now) (c .before .before .before .before .before .name .given .0 .1 .1 .1 .0) (c .start .given .0 .0)
+arrow c =
+    let a = c .before .before .before .before .before .before .before .before .before .args in
+    subst (ToldWord (bytes " -> ") (a .text .now) (c .before .before .before .before .before .name .given .0 .1 .1 .1 .0)) (c .start .given .1) (c .before .before .word-end .ensures)
+
+names : (c : tie.After-first) → let a = c .before .before .before .before .before .before .before .before .before .before .before .before .before .args in NumbersFound (separated 44 (readRanged 1 65535)) (a .text .now) (c .before .before .before .before .start .given .0 .0) (c .first .given .0 .0) (c .first .given .0 .1 .0) (c .first .given .0 .1 .1 .0)
+names c =
+    let a = c .before .before .before .before .before .before .before .before .before .before .before .before .before .args in
+    subst (ToldNumbers (separated 44 (readRanged 1 65535)) (a .text .now) (c .before .before .before .before .start .given .0 .0)) (c .first .given .1) (c .before .before .numbers-at .ensures)
 
 position-at-requires : tie.Need-position-at-requires
 position-at-requires c κs = search needs
@@ -21,13 +37,15 @@ enum-told : tie.Need-enum-told
 enum-told c = search needs
 
 returns : tie.Need-returns
-returns c = split-refused (subst (ToldPosition (c .before .before .before .before .args .text .now) (c .before .before .before .before .args .at)) (c .enum-told .given .1) (c .before .before .position-at .ensures))
+returns c =
+    let a = c .before .before .before .before .args in
+    split-refused (subst (ToldPosition (a .text .now) (a .at)) (c .enum-told .given .1) (c .before .before .position-at .ensures))
 
 slice-aggregate-word-end : tie.Need-slice-aggregate-word-end
 slice-aggregate-word-end c = search needs
 
 word-end-requires : tie.Need-word-end-requires
-word-end-requires c κs = let read = (subst (ToldPosition (c .before .before .before .before .before .before .args .text .now) (c .before .before .before .before .before .before .args .at)) (c .before .before .name .given .1) (c .before .before .before .before .position-at .ensures)) in read .found .within
+word-end-requires c κs = position (c .before .before) .found .within
 
 enum-known-start : tie.Need-enum-known-start
 enum-known-start c = search needs
@@ -37,11 +55,11 @@ enum-told-2 c = search needs
 
 returns-2 : tie.Need-returns-2
 returns-2 c =
-    split-unmarked (subst (ToldPosition (c .before .before .before .before .before .before .before .before .before .args .text .now) (c .before .before .before .before .before .before .before .before .before .args .at)) (c .before .before .before .before .before .name .given .1) (c .before .before .before .before .before .before .before .position-at .ensures))
-    (subst (ToldWord (bytes " -> ") (c .before .before .before .before .before .before .before .before .before .args .text .now) (c .before .before .before .before .before .name .given .0 .1 .1 .1 .0)) (c .enum-told2 .given .1) (c .before .before .word-end .ensures))
+    let a = c .before .before .before .before .before .before .before .before .before .args in
+    split-unmarked (position (c .before .before .before .before .before)) (subst (ToldWord (bytes " -> ") (a .text .now) (c .before .before .before .before .before .name .given .0 .1 .1 .1 .0)) (c .enum-told2 .given .1) (c .before .before .word-end .ensures))
 
 numbers-at-requires : tie.Need-numbers-at-requires
-numbers-at-requires c κs = let arrow = (subst (ToldWord (bytes " -> ") (c .before .before .before .before .before .before .before .before .before .before .args .text .now) (c .before .before .before .before .before .before .name .given .0 .1 .1 .1 .0)) (c .before .start .given .1) (c .before .before .before .word-end .ensures)) in (arrow .within, omega arith)
+numbers-at-requires c κs = (arrow (c .before) .within, omega arith)
 
 enum-known-first : tie.Need-enum-known-first
 enum-known-first c = search needs
@@ -51,15 +69,14 @@ enum-told-3 c = search needs
 
 returns-3 : tie.Need-returns-3
 returns-3 c =
-    split-unnamed (subst (ToldPosition (c .before .before .before .before .before .before .before .before .before .before .before .before .before .args .text .now) (c .before .before .before .before .before .before .before .before .before .before .before .before .before .args .at)) (c .before .before .before .before .before .before .before .before .before .name .given .1) (c .before .before .before .before .before .before .before .before .before .before .before .position-at .ensures))
-    (subst (ToldWord (bytes " -> ") (c .before .before .before .before .before .before .before .before .before .before .before .before .before .args .text .now) (c .before .before .before .before .before .before .before .before .before .name .given .0 .1 .1 .1 .0)) (c .before .before .before .before .start .given .1) (c .before .before .before .before .before .before .word-end .ensures))
-    (subst (ToldNumbers (separated 44 (readRanged 1 65535)) (c .before .before .before .before .before .before .before .before .before .before .before .before .before .args .text .now) (c .before .before .before .before .start .given .0 .0)) (c .enum-told3 .given .1) (c .before .before .numbers-at .ensures))
+    let a = c .before .before .before .before .before .before .before .before .before .before .before .before .before .args in
+    split-unnamed (position (c .before .before .before .before .before .before .before .before .before)) (arrow (c .before .before .before .before)) (subst (ToldNumbers (separated 44 (readRanged 1 65535)) (a .text .now) (c .before .before .before .before .start .given .0 .0)) (c .enum-told3 .given .1) (c .before .before .numbers-at .ensures))
 
 slice-aggregate-word-end-2 : tie.Need-slice-aggregate-word-end-2
 slice-aggregate-word-end-2 c = search needs
 
 word-end-requires-2 : tie.Need-word-end-requires-2
-word-end-requires-2 c κs = let names = (subst (ToldNumbers (separated 44 (readRanged 1 65535)) (c .before .before .before .before .before .before .before .before .before .before .before .before .before .before .before .args .text .now) (c .before .before .before .before .before .before .start .given .0 .0)) (c .before .before .first .given .1) (c .before .before .before .before .numbers-at .ensures)) in names .found .within
+word-end-requires-2 c κs = names (c .before .before) .found .within
 
 enum-known-end : tie.Need-enum-known-end
 enum-known-end c = search needs
@@ -69,17 +86,13 @@ enum-told-4 c = search needs
 
 returns-4 : tie.Need-returns-4
 returns-4 c =
-    split-open (subst (ToldPosition (c .before .before .before .before .before .before .before .before .before .before .before .before .before .before .before .before .before .before .args .text .now) (c .before .before .before .before .before .before .before .before .before .before .before .before .before .before .before .before .before .before .args .at)) (c .before .before .before .before .before .before .before .before .before .before .before .before .before .before .name .given .1) (c .before .before .before .before .before .before .before .before .before .before .before .before .before .before .before .before .position-at .ensures))
-    (subst (ToldWord (bytes " -> ") (c .before .before .before .before .before .before .before .before .before .before .before .before .before .before .before .before .before .before .args .text .now) (c .before .before .before .before .before .before .before .before .before .before .before .before .before .before .name .given .0 .1 .1 .1 .0)) (c .before .before .before .before .before .before .before .before .before .start .given .1) (c .before .before .before .before .before .before .before .before .before .before .before .word-end .ensures))
-    (subst (ToldNumbers (separated 44 (readRanged 1 65535)) (c .before .before .before .before .before .before .before .before .before .before .before .before .before .before .before .before .before .before .args .text .now) (c .before .before .before .before .before .before .before .before .before .start .given .0 .0)) (c .before .before .before .before .before .first .given .1) (c .before .before .before .before .before .before .before .numbers-at .ensures))
-    (subst (ToldWord (bytes "\n") (c .before .before .before .before .before .before .before .before .before .before .before .before .before .before .before .before .before .before .args .text .now) (c .before .before .before .before .before .first .given .0 .1 .1 .0)) (c .enum-told4 .given .1) (c .before .before .word-end2 .ensures))
+    let a = c .before .before .before .before .before .before .before .before .before .before .before .before .before .before .before .before .before .before .args in
+    split-open (position (c .before .before .before .before .before .before .before .before .before .before .before .before .before .before)) (arrow (c .before .before .before .before .before .before .before .before .before)) (names (c .before .before .before .before .before)) (subst (ToldWord (bytes "\n") (a .text .now) (c .before .before .before .before .before .first .given .0 .1 .1 .0)) (c .enum-told4 .given .1) (c .before .before .word-end2 .ensures))
 
 returns-5 : tie.Need-returns-5
 returns-5 c =
-    split-found (subst (ToldPosition (c .before .before .before .before .before .before .before .before .before .before .before .before .before .before .before .before .before .before .before .args .text .now) (c .before .before .before .before .before .before .before .before .before .before .before .before .before .before .before .before .before .before .before .args .at)) (c .before .before .before .before .before .before .before .before .before .before .before .before .before .before .before .name .given .1) (c .before .before .before .before .before .before .before .before .before .before .before .before .before .before .before .before .before .position-at .ensures))
-    (subst (ToldWord (bytes " -> ") (c .before .before .before .before .before .before .before .before .before .before .before .before .before .before .before .before .before .before .before .args .text .now) (c .before .before .before .before .before .before .before .before .before .before .before .before .before .before .before .name .given .0 .1 .1 .1 .0)) (c .before .before .before .before .before .before .before .before .before .before .start .given .1) (c .before .before .before .before .before .before .before .before .before .before .before .before .word-end .ensures))
-    (subst (ToldNumbers (separated 44 (readRanged 1 65535)) (c .before .before .before .before .before .before .before .before .before .before .before .before .before .before .before .before .before .before .before .args .text .now) (c .before .before .before .before .before .before .before .before .before .before .start .given .0 .0)) (c .before .before .before .before .before .before .first .given .1) (c .before .before .before .before .before .before .before .before .numbers-at .ensures))
-    (subst (ToldWord (bytes "\n") (c .before .before .before .before .before .before .before .before .before .before .before .before .before .before .before .before .before .before .before .args .text .now) (c .before .before .before .before .before .before .first .given .0 .1 .1 .0)) (c .before .end .given .1) (c .before .before .before .word-end2 .ensures))
+    let a = c .before .before .before .before .before .before .before .before .before .before .before .before .before .before .before .before .before .before .before .args in
+    split-found (position (c .before .before .before .before .before .before .before .before .before .before .before .before .before .before .before)) (arrow (c .before .before .before .before .before .before .before .before .before .before)) (names (c .before .before .before .before .before .before)) (subst (ToldWord (bytes "\n") (a .text .now) (c .before .before .before .before .before .before .first .given .0 .1 .1 .0)) (c .before .end .given .1) (c .before .before .before .word-end2 .ensures))
 
 pub split-at-spec : {M : Type 1} → statement M
 split-at-spec =
