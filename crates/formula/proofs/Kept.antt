@@ -35,7 +35,7 @@ besides-swap bound x y = fun-ext (λ z. pick (same z y) (same z x) (bound z))
     pick true false d = refl
     pick false b d = refl
 
-termCount-replace : (x : Name) (v : ℕ) (ts : Terms) → termCount (replaceTerms x v ts) ≡ termCount ts
+pub termCount-replace : (x : Name) (v : ℕ) (ts : Terms) → termCount (replaceTerms x v ts) ≡ termCount ts
 termCount-replace x v noTerms = refl
 termCount-replace x v (term t ts) = ap suc (termCount-replace x v ts)
 

@@ -1,5 +1,6 @@
 pub mod Kinds
 pub mod Naming
+pub mod Listing
 pub mod Words
 pub mod Stored
 pub mod Paths
@@ -9,3 +10,5 @@ pub mod Inner
 pub mod Indexed
 pub mod Storing
 pub mod Cursor
+pub mod Evaluated
+pub mod Kept

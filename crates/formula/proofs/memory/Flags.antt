@@ -3,7 +3,7 @@
 use Prim.Native.Nat.{ℕ, zero, suc, _+_, _-_, _/_, _%_, _≤_, _<_}
 use native.Mathlib.Numerals.{sub-one}
 use native.Mathlib.Omega.{arith}
-use mathlib.Core.Path.{_≡_, refl, sym, ap, ap₂, _∙_, fun-ext}
+use mathlib.Core.Path.{_≡_, refl, sym, ap, _∙_, fun-ext}
 use mathlib.Core.List.{List, [], _∷_}
 use mathlib.Core.Bool.{Bool, true, false, _&&_, _||_, and-true}
 use borrow.Author.Tests.{eq-eqb, ne-eqb, eqb-true, eqb-false}
@@ -14,7 +14,7 @@ use Rattle.text.specs.Problem.{Name}
 use Rattle.text.proofs.Places.{next-within}
 use Rattle.formula.specs.Names.{besides, termClosed, termsClosed, closed, allClosed}
 use Rattle.formula.specs.memory.Kinds.{kindOf, kindBy, skip}
-use Rattle.formula.specs.memory.Stored.{indexName, stored, afterFirst, termOf, termsAt, partsBy, formulaBy, formulaAt}
+use Rattle.formula.specs.memory.Stored.{indexName, stored, termOf, termsAt, partsBy, formulaBy, formulaAt}
 use Rattle.formula.specs.memory.Flags.{flagged, closedAt, allClosedAt, termsClosedAt}
 use Rattle.formula.specs.declared.word.Sign.{Sign}
 use Rattle.formula.specs.declared.word.Kind.{Kind}

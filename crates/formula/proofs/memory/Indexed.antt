@@ -1,24 +1,23 @@
--- Memory has an index for each name. A formula with its names replaced by their indices is what stands in memory, and it has the same value and is closed alike.
+-- Memory has an index for each name. A formula with its names replaced by their indices is what stands in memory, and it is closed alike.
 -- Assumes nothing.
-use Prim.Native.Nat.{ℕ, suc, _+_, _*_, _%_, max, _≤_, _<_}
+use Prim.Native.Nat.{ℕ, suc, _+_, _%_, _≤_, _<_}
 use native.Mathlib.Omega.{arith}
-use mathlib.Core.Path.{_≡_, refl, sym, ap, ap₂, subst, _∙_, fun-ext}
-use mathlib.Core.List.{List, [], _∷_, _++_, map}
-use mathlib.Core.Bool.{Bool, true, false, cond, _&&_, _||_, false≢true}
+use mathlib.Core.Path.{_≡_, refl, sym, ap, ap₂, subst, _∙_}
+use mathlib.Core.List.{List, _∷_, _++_}
+use mathlib.Core.Bool.{Bool, true, false, _&&_, _||_, false≢true}
 use borrow.Author.Tests.{eq-eqb, ne-eqb}
 use lib.Dec.{eqb}
 use lib.ListN.{length, getD, set, replicate, length-replicate, getD-replicate}
 use Rattle.text.specs.Bytes.{same}
-use Rattle.text.specs.Problem.{Name, Row}
+use Rattle.text.specs.Problem.{Name}
 use Rattle.text.proofs.Laws.{same-refl, same-true}
-use Rattle.formula.specs.Formula.{Term, element, variable, Terms, noTerms, term, termCount, Side, Connective}
+use Rattle.formula.specs.Formula.{Term, element, variable, Terms, noTerms, term, termCount}
 use Rattle.formula.specs.Formula.{Formula, truth, atom, equal, connective, quantifier, Formulas, noParts, part, depth, depths}
 use Rattle.formula.specs.Names.{none, besides, termClosed, termsClosed, closed, allClosed, closedBut}
-use Rattle.formula.specs.Meaning.{Structure, Environment, bind, valueOf, valuesOf, joinAll, connect, guarded, elementsTo, holds, truths}
-use Rattle.formula.specs.memory.Words.{partTotal, termWord, termWords, words, allWords}
+use Rattle.formula.specs.memory.Words.{partTotal, termWord, words}
 use Rattle.formula.specs.memory.Stored.{indexName, stored}
 use Rattle.formula.specs.memory.Flags.{flagged, closedAt}
-use Rattle.formula.proofs.memory.Naming.{Naming, Listed, wordsIn, allWordsIn, termWordsIn, TermStorable, TermsStorable, Storable, AllStorable, VariableListed, PredicateListed}
+use Rattle.formula.proofs.memory.Naming.{Naming, wordsIn, allWordsIn, termWordsIn, TermStorable, TermsStorable, Storable, AllStorable, VariableListed, PredicateListed}
 use Rattle.formula.proofs.memory.Stored.{formulaAt-words}
 use Rattle.formula.proofs.memory.Flags.{flagged-set}
 
@@ -150,7 +149,7 @@ module _ (N : Naming) where
       ∙ formulaAt-words byIndex (indexed N f) levels s (storable-indexed f h) (rw (depth-indexed f) l)
 
   -- names in the table differ as their indices do
-  same-indexed : (x y : Name) → VariableListed N x → VariableListed N y → same x y ≡ same (indexedVariable N x) (indexedVariable N y)
+  pub same-indexed : (x y : Name) → VariableListed N x → VariableListed N y → same x y ≡ same (indexedVariable N x) (indexedVariable N y)
   same-indexed x y h k = pick (same x y) refl
     where
       pick : (b : Bool) → same x y ≡ b → b ≡ (eqb (N .variableIndex x) (N .variableIndex y) && true)
@@ -212,43 +211,3 @@ module _ (N : Naming) where
       rw low
       (closed-words f levels s (besides x none) (set (replicate 64 false) (N .variableIndex x) true) h l
       (subst (Matches (besides x none)) (flagged-set (replicate 64 false) (N .variableIndex x) long) (matches-besides none (flagged (replicate 64 false)) x k matches-none)))
-
-  -- The same value, in structures that agree on the predicates of the table.
-
-  pub record Alike (S T : Structure) : Type 0 where
-    pub domains : S .domain ≡ T .domain
-    pub relations : (p : Name) (row : Row) → PredicateListed N p → S .relation p row ≡ T .relation (indexedPredicate N p) row
-
-  matches-bind : (ρ σ : Environment) (y : Name) (v : ℕ) → VariableListed N y → Matches ρ σ → Matches (bind ρ y v) (bind σ (indexedVariable N y) v)
-  matches-bind ρ σ y v k a x h = ap₂ (λ (b : Bool) (u : ℕ). cond b v u) (same-indexed x y h k) (a x h)
-
-  module _ (ρ σ : Environment) (a : Matches ρ σ) where
-    value-indexed : (t : Term) → TermStorable N t → valueOf ρ t ≡ valueOf σ (indexedTerm N t)
-    value-indexed (element v) h = refl
-    value-indexed (variable x) h = a x h
-
-    values-indexed : (ts : Terms) → TermsStorable N ts → valuesOf ρ ts ≡ valuesOf σ (indexedTerms N ts)
-    values-indexed noTerms h = refl
-    values-indexed (term t ts) h = ap₂ (λ (v : ℕ) (vs : Row). v ∷ vs) (value-indexed t (h .0)) (values-indexed ts (h .1))
-
-  module _ (S T : Structure) (alike : Alike S T) where
-    mutual
-      unfolding indexed holds
-
-      pub holds-indexed : (f : Formula) (ρ σ : Environment) → Storable N f → Matches ρ σ → holds S ρ f ≡ holds T σ (indexed N f)
-      holds-indexed (truth b) ρ σ h a = refl
-      holds-indexed (atom p ts) ρ σ h a =
-          alike .relations p (valuesOf ρ ts) (h .0) ∙ ap (T .relation (indexedPredicate N p)) (values-indexed ρ σ a ts (h .2))
-      holds-indexed (equal s t) ρ σ h a = ap₂ eqb (value-indexed ρ σ a s (h .0)) (value-indexed ρ σ a t (h .1))
-      holds-indexed (connective o fs) ρ σ h a = ap (connect o) (truths-indexed fs ρ σ h a)
-      holds-indexed (quantifier c x g f) ρ σ h a =
-          ap₂ (λ (value : ℕ → Bool) (n : ℕ). joinAll c (map value (elementsTo n)))
-          (fun-ext (λ v.
-          ap₂ (guarded c) (holds-indexed g (bind ρ x v) (bind σ (indexedVariable N x) v) (h .1) (matches-bind ρ σ x v (h .0) a))
-          (holds-indexed f (bind ρ x v) (bind σ (indexedVariable N x) v) (h .2) (matches-bind ρ σ x v (h .0) a))))
-          (alike .domains)
-
-      truths-indexed : (fs : Formulas) (ρ σ : Environment) → AllStorable N fs → Matches ρ σ → truths S ρ fs ≡ truths T σ (allIndexed N fs)
-      truths-indexed noParts ρ σ h a = refl
-      truths-indexed (part f fs) ρ σ h a =
-          ap₂ (λ (b : Bool) (bs : List Bool). b ∷ bs) (holds-indexed f ρ σ (h .0) a) (truths-indexed fs ρ σ (h .1) a)

@@ -1,29 +1,28 @@
 -- A path in memory leads where it leads in the formula, and a rule there changes the words of that one formula only: the words before it and after it stay.
 -- Assumes nothing.
-use Prim.Native.Nat.{ℕ, zero, suc, _+_, _*_, max, _≤_, _<_}
+use Prim.Native.Nat.{ℕ, zero, suc, _+_, _*_, _≤_, _<_}
 use native.Mathlib.Nat.{add-zero}
-use native.Mathlib.Numerals.{add-one}
 use native.Mathlib.Omega.{arith}
 use mathlib.Core.Path.{_≡_, refl, sym, ap, subst, _∙_}
 use mathlib.Core.List.{List, [], _∷_, _++_, append-assoc, append-nil}
 use mathlib.Core.Bool.{Bool, true, false}
-use borrow.Author.Tests.{lt-ltb, le-ltb, ltb-true, ltb-false}
+use borrow.Author.Tests.{ltb-true, ltb-false}
 use lib.Dec.{ltb}
-use lib.ListN.{length, getD, drop, length-append}
-use lib.Seq.{drop-drop, drop-append-seam}
+use lib.ListN.{length, getD, take, drop, length-append}
+use lib.Seq.{drop-drop, take-append-seam, drop-append-seam}
 use Rattle.text.specs.Outcome.{Outcome, done, refused, mapped}
 use Rattle.text.specs.Problem.{Name}
 use Rattle.text.proofs.Places.{next-within}
 use Rattle.formula.specs.Formula.{Side, Connective, Formula, truth, atom, equal, connective, quantifier, Formulas, noParts, part, depth, depths, size, termCount}
 use Rattle.formula.specs.Rules.{Rewriting, intoParts, into, at}
 use Rattle.formula.specs.memory.Kinds.{kindOf, skip}
-use Rattle.formula.specs.memory.Words.{connectiveTag, quantifierTag, partTotal, words, allWords}
+use Rattle.formula.specs.memory.Words.{connectiveTag, quantifierTag, partTotal, words}
 use Rattle.formula.specs.memory.Paths.{subformulaCount, placeBelow, placeOf, onward}
 use Rattle.formula.specs.declared.word.Kind.{Kind}
 use Rattle.formula.specs.declared.walk.Place.{Place}
 use Rattle.formula.specs.declared.walk.Place.the-variants.{At, Nowhere}
 use Rattle.formula.proofs.memory.Kinds.{skip-none}
-use Rattle.formula.proofs.memory.Naming.{Naming, wordsIn, allWordsIn, Storable, AllStorable, VariableListed}
+use Rattle.formula.proofs.memory.Naming.{Naming, wordsIn, allWordsIn, Storable, AllStorable}
 use Rattle.formula.proofs.memory.Words.{length-words, skip-words, skip-first, kind-truth, kind-atom, kind-equal, kind-connective, kind-quantifier}
 use Rattle.formula.proofs.memory.Paths.{below-at, below-nowhere}
 
@@ -234,13 +233,21 @@ module _ (N : Naming) (work : List ℕ) where
     put-storable = λ h w v. a .put-storable (b .put h) w (b .put-storable h (a .inner-storable w) v);
   }
 
-  -- where the words of f stand, the inner formula's words stand at its place
-  pub inner-stands : (f : Formula) (rewrite : Rewriting → Outcome ℕ Formula) (r : Inner N f rewrite) (start : ℕ) (s : List ℕ) → drop start work ≡ wordsIn N f ++ s
-      → drop (start + length (r .before)) work ≡ wordsIn N (r .inner) ++ (r .after ++ s)
-  inner-stands f rewrite r start s e =
-      sym (drop-drop (length (r .before)) start work)
-      ∙ ap (drop (length (r .before))) (e ∙ ap (λ (g : Formula). wordsIn N g ++ s) (sym (r .put-inner)) ∙ rw (r .words-put (r .inner)) (simp append-assoc))
-      ∙ drop-append-seam (r .before) (wordsIn N (r .inner) ++ (r .after ++ s))
+  -- Where the words of f stand: the words before the inner formula, its own at its place, and those after it.
+  module _ (f : Formula) (rewrite : Rewriting → Outcome ℕ Formula) (r : Inner N f rewrite) (start : ℕ) (s : List ℕ) (stands : drop start work ≡ wordsIn N f ++ s) where
+    three-parts : drop start work ≡ r .before ++ (wordsIn N (r .inner) ++ (r .after ++ s))
+    three-parts = stands ∙ ap (λ (g : Formula). wordsIn N g ++ s) (sym (r .put-inner)) ∙ rw (r .words-put (r .inner)) (simp append-assoc)
+
+    pub inner-before : take (length (r .before)) (drop start work) ≡ r .before
+    inner-before = rw three-parts (take-append-seam (r .before) _)
+
+    pub inner-stands : drop (start + length (r .before)) work ≡ wordsIn N (r .inner) ++ (r .after ++ s)
+    inner-stands = sym (drop-drop (length (r .before)) start work) ∙ rw three-parts (drop-append-seam (r .before) _)
+
+    pub inner-after : drop (start + length (r .before) + size (r .inner)) work ≡ r .after ++ s
+    inner-after =
+        sym (drop-drop (size (r .inner)) (start + length (r .before)) work)
+        ∙ rw (inner-stands, ← length-words N (r .inner)) (drop-append-seam (wordsIn N (r .inner)) (r .after ++ s))
 
   pub walk-reached : (path : List ℕ) (f : Formula) (start : ℕ) (s : List ℕ) → drop start work ≡ wordsIn N f ++ s
       → Reached N f (λ k. at path k f) start (placeOf work path start)

@@ -1,19 +1,17 @@
 -- Where the words of a formula stand, `formulaAt` reads that formula, if its names are within the tables and its depth within the levels.
 -- Assumes nothing.
-use Prim.Native.Nat.{ℕ, zero, suc, _+_, _-_, _*_, _/_, _%_, max, _≤_, _<_}
+use Prim.Native.Nat.{ℕ, zero, suc, _+_, _-_, _*_, _/_, _%_, _≤_, _<_}
 use native.Mathlib.Numerals.{sub-one}
 use native.Mathlib.Omega.{arith}
 use mathlib.Core.Path.{_≡_, refl, ap, ap₂, _∙_}
-use mathlib.Core.List.{List, [], _∷_, _++_, append-assoc}
+use mathlib.Core.List.{List, _∷_, _++_, append-assoc}
 use mathlib.Core.Bool.{Bool}
 use borrow.Author.Tests.{eq-eqb, ne-eqb}
-use lib.ListN.{drop, getD}
-use Rattle.text.specs.Problem.{Name}
 use Rattle.formula.specs.Formula.{Term, element, variable, Terms, noTerms, term, termCount, Side, all, any, Connective, negation, implies, impliedBy, equivalent, junction}
 use Rattle.formula.specs.Formula.{Formula, truth, atom, equal, connective, quantifier, Formulas, noParts, part, depth, depths}
 use Rattle.formula.specs.memory.Kinds.{kindOf}
-use Rattle.formula.specs.memory.Words.{partTotal, termWord, termWords, words, allWords}
-use Rattle.formula.specs.memory.Stored.{sideOf, connectiveOf, afterFirst, termOf, termsAt, partsBy, formulaBy, formulaAt}
+use Rattle.formula.specs.memory.Words.{partTotal, termWord, words}
+use Rattle.formula.specs.memory.Stored.{afterFirst, termOf, termsAt, partsBy, formulaBy, formulaAt}
 use Rattle.formula.specs.declared.word.Kind.{Kind}
 use Rattle.formula.specs.declared.word.Kind.the-variants as kind
 use Rattle.formula.proofs.memory.Naming.{Naming, wordsIn, allWordsIn, termWordsIn, formulaIn, TermStorable, TermsStorable, Storable, AllStorable}

@@ -1,12 +1,11 @@
 -- The value of a formula in memory: what each kind of word comes to, what settles it, and a turn of the loops over parts and over elements.
 -- Assumes nothing.
 use Prim.Native.Nat.{ℕ, zero, suc, _+_, _-_, _*_, _/_, _%_, _≤_, _<_}
-use native.Mathlib.Nat.{add-zero}
 use native.Mathlib.Numerals.{add-one, one-add, sub-one}
 use native.Mathlib.Omega.{arith}
-use mathlib.Core.Path.{_≡_, refl, sym, ap, ap₂, _∙_, fun-ext}
+use mathlib.Core.Path.{_≡_, refl, sym, ap, _∙_, fun-ext}
 use mathlib.Core.List.{List, [], _∷_, map}
-use mathlib.Core.Bool.{Bool, true, false, cond, not, _&&_, _||_, Bool·beq, and-true, or-true, or-false, false≢true}
+use mathlib.Core.Bool.{Bool, true, false, cond, not, _&&_, Bool·beq, and-true, or-true, or-false, false≢true}
 use borrow.Author.Tests.{eq-eqb, ne-eqb, eqb-true, eqb-false}
 use lib.Dec.{eqb}
 use lib.ListN.{length, getD, drop, set, List·getD-eq-default}
@@ -15,7 +14,7 @@ use Rattle.text.specs.Problem.{Name}
 use Rattle.text.specs.memory.Table.{packed}
 use Rattle.text.specs.declared.table.Table.{Table}
 use Rattle.text.proofs.Places.{next-within}
-use Rattle.formula.specs.Meaning.{Environment, bind, valueOf, valuesOf, unit, join, joinAll, connect, guarded, countFrom, elementsTo, holds, truths}
+use Rattle.formula.specs.Meaning.{Environment, bind, valueOf, valuesOf, unit, join, joinAll, connect, guarded, countFrom, elementsTo, holds}
 use Rattle.formula.specs.memory.Kinds.{kindOf, kindBy, skip}
 use Rattle.formula.specs.memory.Stored.{indexName, stored, afterFirst, sideOf, connectiveOf, termOf, termsAt, partsBy, formulaBy, formulaAt}
 use Rattle.formula.specs.memory.Values.{valued, settledBy, settledFirst, tableStructure, atomAt, trueAt, truthsAt, elementAt, eachAt}

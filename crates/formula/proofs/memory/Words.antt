@@ -5,15 +5,15 @@ use native.Mathlib.Nat.{add-suc, add-zero}
 use native.Mathlib.Numerals.{add-two}
 use native.Mathlib.Omega.{arith}
 use mathlib.Core.Path.{_≡_, refl, ap, ap₂, _∙_}
-use mathlib.Core.List.{List, [], _∷_, _++_, append-assoc}
+use mathlib.Core.List.{List, _∷_, _++_, append-assoc}
 use mathlib.Core.Bool.{Bool, true, false}
-use lib.ListN.{length, drop, length-append}
+use lib.ListN.{length, length-append}
 use lib.Seq.{drop-append-seam}
 use Rattle.text.specs.Problem.{Name}
 use Rattle.formula.specs.Formula.{Term, element, variable, Terms, noTerms, term, termCount, Side, all, any, Connective, negation, implies, impliedBy, equivalent, junction}
 use Rattle.formula.specs.Formula.{Formula, truth, atom, equal, connective, quantifier, Formulas, noParts, part, size, sizes}
 use Rattle.formula.specs.memory.Kinds.{kindOf, kindBy, partCount, skip}
-use Rattle.formula.specs.memory.Words.{truthWord, connectiveTag, quantifierTag, partTotal, termWord, termWords, words, allWords}
+use Rattle.formula.specs.memory.Words.{truthWord, connectiveTag, quantifierTag, partTotal, termWord, termWords, words}
 use Rattle.formula.specs.memory.Stored.{afterFirst}
 use Rattle.formula.specs.declared.word.Sign.{Sign}
 use Rattle.formula.specs.declared.word.Sign.the-variants as sign
