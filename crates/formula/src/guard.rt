@@ -7,8 +7,8 @@ use crate::word::peek;
 use text::table::Table;
 ghost use mathlib.Core.Path.{_≡_};
 ghost use mathlib.Core.List.{_∷_, []};
-ghost use mathlib.Core.Bool.{Bool, false};
-ghost use Prim.Native.Nat.{ℕ, _+_, _*_, _%_, _≤_, _<_};
+ghost use mathlib.Core.Bool.{false};
+ghost use Prim.Native.Nat.{_+_, _*_, _%_, _≤_, _<_};
 ghost use lib.Dec.{eqb};
 ghost use lib.ListN.{length, drop, getD, set};
 ghost use Rattle.text.specs.memory.Table.{packed};
@@ -145,6 +145,7 @@ pub fn connected(sign: Sign, first: bool, second: bool) -> bool
     }
 }
 
+// The value of the formula at a place.
 pub fn evaluate(
     work: &[u32],
     at: usize,
@@ -162,38 +163,19 @@ pub fn evaluate(
     if at >= work.len() {
         return false;
     }
+    let fewer = levels - 1;
     match kind_of(work[at]) {
         Kind::Truth(b) => b,
-        Kind::Atom { predicate, terms } => atom_holds(
-            work,
-            at + 1,
-            predicate,
-            terms,
-            values,
-            table,
-            rows,
-        ),
+        Kind::Atom { predicate, terms } => {
+            atom_holds(work, at + 1, predicate, terms, values, table, rows)
+        }
         Kind::Equality => equal_holds(work, at + 1, values),
-        Kind::Connective { sign, parts } => connective_holds(
-            work,
-            at + 1,
-            levels - 1,
-            sign,
-            parts,
-            values,
-            table,
-            rows,
-        ),
-        Kind::Quantifier { every, variable } => each_holds(
-            work,
-            at + 1,
-            levels - 1,
-            every,
-            variable,
-            values,
-            table,
-            rows,
-        ),
+        Kind::Connective { sign, parts } => {
+            connective_holds(work, at + 1, fewer, sign, parts, values, table, rows)
+        }
+        Kind::Quantifier { every, variable } => {
+            each_holds(work, at + 1, fewer, every, variable, values, table, rows)
+        }
         Kind::Term => false,
     }
 }

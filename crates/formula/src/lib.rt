@@ -1,6 +1,6 @@
 // Formulas: their text and reading, their meaning, and the rules on them.
-pub mod guard;
 pub mod cursor;
+pub mod guard;
 pub mod scope;
 pub mod store;
 pub mod walk;

@@ -66,13 +66,9 @@ pub fn closed_at(work: &[u32], at: usize, levels: usize, flags: [bool; 64]) -> b
         } => terms_closed(work, at + 1, terms % 4, flags),
         Kind::Equality => terms_closed(work, at + 1, 2, flags),
         Kind::Connective { sign: _, parts } => parts_closed(work, at + 1, levels - 1, parts, flags),
-        Kind::Quantifier { every: _, variable } => parts_closed(
-            work,
-            at + 1,
-            levels - 1,
-            2,
-            with_flag(flags, variable),
-        ),
+        Kind::Quantifier { every: _, variable } => {
+            parts_closed(work, at + 1, levels - 1, 2, with_flag(flags, variable))
+        }
         Kind::Term => true,
     }
 }

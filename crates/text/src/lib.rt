@@ -3,5 +3,5 @@ pub mod byte;
 pub mod line;
 pub mod name;
 pub mod number;
-pub mod table;
 pub mod rule_line;
+pub mod table;

@@ -3,7 +3,7 @@
 -- Assumes nothing.
 use borrow.Author.Needs.{needs}
 use native.Mathlib.Omega.{arith}
-use Prim.Native.Nat.{ℕ, _+_, _-_, _*_, _%_, _≤_}
+use Prim.Native.Nat.{ℕ, _+_, _-_, _*_, _≤_}
 use mathlib.Core.Path.{_≡_, refl, sym, ap, ap₂, _∙_}
 use mathlib.Core.List.{List, [], _∷_}
 use mathlib.Core.Bool.{Bool, false}
@@ -11,7 +11,7 @@ use lib.ListN.{length, drop, getD}
 use borrow.Author.Tests.{not-true, not-false}
 use Rattle.formula.specs.Meaning.{connect}
 use Rattle.formula.specs.memory.Stored.{connectiveOf}
-use Rattle.formula.specs.memory.Values.{trueAt, truthsAt, elementAt, eachAt}
+use Rattle.formula.specs.memory.Values.{truthsAt, elementAt, eachAt}
 use Rattle.formula.specs.declared.word.Sign.{Sign}
 use Rattle.formula.proofs.memory.Values.{value-no-level, value-beyond, value-truth, value-term, value-atom, value-equal, value-connective, value-quantifier}
 use Rattle.formula.proofs.memory.Values.{isPair, connect-pair, connect-settled, part-value, part-none, partsFrom, parts-end, parts-settled, parts-open}
@@ -216,7 +216,8 @@ connective-holds-returns-4 t c =
 connective-holds-returns-5 : (t : ℕ) → connective-holds-lts.Need-returns-5 (connective-holds-calls t) (connective-holds-at t) connective-holds.Post
 connective-holds-returns-5 t c =
     let a = c .before .before .before .before .before .before .args in
-    c .parts-hold .ensures ∙ ap (λ (o : Sign). connect (connectiveOf o) (truthsAt (a .table) (a .rows .now) (a .levels) (a .values) (a .parts) (drop (a .at) (a .work .now)))) (sym (c .before .before .sign .given .1))
+    let truths = truthsAt (a .table) (a .rows .now) (a .levels) (a .values) (a .parts) (drop (a .at) (a .work .now)) in
+    c .parts-hold .ensures ∙ ap (λ (o : Sign). connect (connectiveOf o) truths) (sym (c .before .before .sign .given .1))
 
 abbrev each-holds-Inv-loop : each-holds-lts.InvT-loop
 each-holds-Inv-loop work at levels every variable values table rows v₀ pending₀ v pending =
@@ -245,7 +246,8 @@ each-holds-returns t c =
     let l = c .before .before .before .before .before .loop in
     let s = drop (a .at) (a .work .now) in
     let is = c .before .before .element-holds .ensures ∙ ap (λ (e : List ℕ). elementAt (a .table) (a .rows .now) (a .levels) e (a .every) s) (c .before .before .before .with-value .ensures) in
-    sym (l .inv .2 ∙ each-settled (a .table) (a .rows .now) (a .levels) (a .values) (a .every) (a .variable) s (l .v) (l .pending) _ (omega arith) is (sym (c .before .settles .ensures) ∙ c .if1 .taken))
+    let settled = sym (c .before .settles .ensures) ∙ c .if1 .taken in
+    sym (l .inv .2 ∙ each-settled (a .table) (a .rows .now) (a .levels) (a .values) (a .every) (a .variable) s (l .v) (l .pending) _ (omega arith) is settled)
 
 each-holds-add-v : (t : ℕ) → each-holds-lts.Need-add-v (each-holds-calls t) (each-holds-at t) each-holds.Post each-holds-Inv-loop each-holds-μ-loop
 each-holds-add-v t c = search needs
@@ -261,10 +263,11 @@ each-holds-loop-again t c =
     let a = c .before .before .before .before .before .before .before .before .args in
     let l = c .before .before .before .before .before .loop in
     let s = drop (a .at) (a .work .now) in
-    let is = c .before .before .element-holds .ensures ∙ ap (λ (e : List ℕ). elementAt (a .table) (a .rows .now) (a .levels) e (a .every) s) (c .before .before .before .with-value .ensures) in (
+    let is = c .before .before .element-holds .ensures ∙ ap (λ (e : List ℕ). elementAt (a .table) (a .rows .now) (a .levels) e (a .every) s) (c .before .before .before .with-value .ensures) in
+    let unsettled = sym (c .before .settles .ensures) ∙ c .if1 .left in (
       omega arith,
       omega arith,
-      l .inv .2 ∙ each-open (a .table) (a .rows .now) (a .levels) (a .values) (a .every) (a .variable) s (l .v) (l .pending) _ (omega arith) is (sym (c .before .settles .ensures) ∙ c .if1 .left),
+      l .inv .2 ∙ each-open (a .table) (a .rows .now) (a .levels) (a .values) (a .every) (a .variable) s (l .v) (l .pending) _ (omega arith) is unsettled,
     )
 
 each-holds-returns-2 : (t : ℕ) → each-holds-lts.Need-returns-2 (each-holds-calls t) (each-holds-at t) each-holds.Post each-holds-Inv-loop each-holds-μ-loop
@@ -279,7 +282,8 @@ element-holds-evaluate-requires t c κs = search needs
 element-holds-returns : (t : ℕ) → element-holds-lts.Need-returns (element-holds-calls t) (element-holds-at t) element-holds.Post
 element-holds-returns t c =
     let a = c .before .before .before .before .args in
-    element-outside (a .table) (a .rows .now) (a .work .now) (a .at) (a .levels) (a .values) (a .every) (sym (c .before .evaluate .ensures) ∙ not-true _ (c .if1 .taken))
+    let guard = sym (c .before .evaluate .ensures) ∙ not-true _ (c .if1 .taken) in
+    element-outside (a .table) (a .rows .now) (a .work .now) (a .at) (a .levels) (a .values) (a .every) guard
 
 element-holds-past-requires : (t : ℕ) → element-holds-lts.Need-past-requires (element-holds-calls t) (element-holds-at t) element-holds.Post
 element-holds-past-requires t c κs = search needs
@@ -290,7 +294,9 @@ element-holds-evaluate-requires-2 t c κs = (omega arith, (c .past .ensures .1, 
 element-holds-returns-2 : (t : ℕ) → element-holds-lts.Need-returns-2 (element-holds-calls t) (element-holds-at t) element-holds.Post
 element-holds-returns-2 t c =
     let a = c .before .before .before .before .before .before .args in
-    element-inside (a .table) (a .rows .now) (a .work .now) (a .at) (a .levels) (a .values) (a .every) (c .before .past .result) _ (sym (c .before .before .before .evaluate .ensures) ∙ not-false _ (c .before .before .if1 .left)) (c .before .past .ensures .0) (c .evaluate2 .ensures)
+    let guard = sym (c .before .before .before .evaluate .ensures) ∙ not-false _ (c .before .before .if1 .left) in
+    let body = c .before .past .ensures .0 in
+    element-inside (a .table) (a .rows .now) (a .work .now) (a .at) (a .levels) (a .values) (a .every) _ _ guard body (c .evaluate2 .ensures)
 
 evaluate-returns : (t : ℕ) → evaluate-lts.Need-returns (evaluate-calls t) (evaluate-at t) evaluate.Post
 evaluate-returns t c =
@@ -301,6 +307,9 @@ evaluate-returns-2 : (t : ℕ) → evaluate-lts.Need-returns-2 (evaluate-calls t
 evaluate-returns-2 t c =
     let a = c .before .before .before .before .args in
     value-beyond (a .table) (a .rows .now) (a .work .now) (a .at) (a .levels) (a .values) (c .before .if1 .left) (c .if2 .taken)
+
+evaluate-sub-fewer : (t : ℕ) → evaluate-lts.Need-sub-fewer (evaluate-calls t) (evaluate-at t) evaluate.Post
+evaluate-sub-fewer t c = search needs
 
 evaluate-mul-kind-of : (t : ℕ) → evaluate-lts.Need-mul-kind-of (evaluate-calls t) (evaluate-at t) evaluate.Post
 evaluate-mul-kind-of t c = search needs
@@ -338,9 +347,6 @@ evaluate-enum-known-sign t c = search needs
 evaluate-add-connective-holds : (t : ℕ) → evaluate-lts.Need-add-connective-holds (evaluate-calls t) (evaluate-at t) evaluate.Post
 evaluate-add-connective-holds t c = search needs
 
-evaluate-sub-connective-holds : (t : ℕ) → evaluate-lts.Need-sub-connective-holds (evaluate-calls t) (evaluate-at t) evaluate.Post
-evaluate-sub-connective-holds t c = search needs
-
 evaluate-connective-holds-requires : (t : ℕ) → evaluate-lts.Need-connective-holds-requires (evaluate-calls t) (evaluate-at t) evaluate.Post
 evaluate-connective-holds-requires t c κs = search needs
 
@@ -349,9 +355,6 @@ evaluate-enum-known-every t c = search needs
 
 evaluate-add-each-holds : (t : ℕ) → evaluate-lts.Need-add-each-holds (evaluate-calls t) (evaluate-at t) evaluate.Post
 evaluate-add-each-holds t c = search needs
-
-evaluate-sub-each-holds : (t : ℕ) → evaluate-lts.Need-sub-each-holds (evaluate-calls t) (evaluate-at t) evaluate.Post
-evaluate-sub-each-holds t c = search needs
 
 evaluate-each-holds-requires : (t : ℕ) → evaluate-lts.Need-each-holds-requires (evaluate-calls t) (evaluate-at t) evaluate.Post
 evaluate-each-holds-requires t c κs = search needs
@@ -362,36 +365,48 @@ evaluate-enum-told-2 t c = search needs
 evaluate-returns-3 : (t : ℕ) → evaluate-lts.Need-returns-3 (evaluate-calls t) (evaluate-at t) evaluate.Post
 evaluate-returns-3 t c =
     let a = c .before .before .before .before .before .before .before .before .before .args in
-    value-truth (a .table) (a .rows .now) (a .work .now) (a .at) (a .levels) (a .values) (c .before .before .before .before .before .before .if1 .left) _ (sym (c .before .before .before .kind-of .ensures) ∙ c .before .b .given .1)
+    let some = c .before .before .before .before .before .before .if1 .left in
+    let told = sym (c .before .before .before .kind-of .ensures) ∙ c .before .b .given .1 in
+    value-truth (a .table) (a .rows .now) (a .work .now) (a .at) (a .levels) (a .values) some _ told
 
 evaluate-returns-4 : (t : ℕ) → evaluate-lts.Need-returns-4 (evaluate-calls t) (evaluate-at t) evaluate.Post
 evaluate-returns-4 t c =
     let a = c .before .before .before .before .before .before .before .before .before .before .args in
+    let some = c .before .before .before .before .before .before .before .if1 .left in
+    let told = sym (c .before .before .before .before .kind-of .ensures) ∙ c .before .before .predicate .given .1 in
     c .atom-holds .ensures
-    ∙ sym (value-atom (a .table) (a .rows .now) (a .work .now) (a .at) (a .levels) (a .values) (c .before .before .before .before .before .before .before .if1 .left) _ _ (sym (c .before .before .before .before .kind-of .ensures) ∙ c .before .before .predicate .given .1))
+    ∙ sym (value-atom (a .table) (a .rows .now) (a .work .now) (a .at) (a .levels) (a .values) some _ _ told)
 
 evaluate-returns-5 : (t : ℕ) → evaluate-lts.Need-returns-5 (evaluate-calls t) (evaluate-at t) evaluate.Post
 evaluate-returns-5 t c =
     let a = c .before .before .before .before .before .before .before .before .before .args in
+    let some = c .before .before .before .before .before .before .if1 .left in
+    let told = sym (c .before .before .before .kind-of .ensures) ∙ c .before .enum-told .given .1 in
     c .equal-holds .ensures
-    ∙ sym (value-equal (a .table) (a .rows .now) (a .work .now) (a .at) (a .levels) (a .values) (c .before .before .before .before .before .before .if1 .left) (sym (c .before .before .before .kind-of .ensures) ∙ c .before .enum-told .given .1))
+    ∙ sym (value-equal (a .table) (a .rows .now) (a .work .now) (a .at) (a .levels) (a .values) some told)
 
 evaluate-returns-6 : (t : ℕ) → evaluate-lts.Need-returns-6 (evaluate-calls t) (evaluate-at t) evaluate.Post
 evaluate-returns-6 t c =
     let a = c .before .before .before .before .before .before .before .before .before .before .args in
+    let some = c .before .before .before .before .before .before .before .if1 .left in
+    let told = sym (c .before .before .before .before .kind-of .ensures) ∙ c .before .before .sign .given .1 in
     c .connective-holds .ensures
-    ∙ sym (value-connective (a .table) (a .rows .now) (a .work .now) (a .at) (a .levels) (a .values) (c .before .before .before .before .before .before .before .if1 .left) _ _ (sym (c .before .before .before .before .kind-of .ensures) ∙ c .before .before .sign .given .1))
+    ∙ sym (value-connective (a .table) (a .rows .now) (a .work .now) (a .at) (a .levels) (a .values) some _ _ told)
 
 evaluate-returns-7 : (t : ℕ) → evaluate-lts.Need-returns-7 (evaluate-calls t) (evaluate-at t) evaluate.Post
 evaluate-returns-7 t c =
     let a = c .before .before .before .before .before .before .before .before .before .before .args in
+    let some = c .before .before .before .before .before .before .before .if1 .left in
+    let told = sym (c .before .before .before .before .kind-of .ensures) ∙ c .before .before .every .given .1 in
     c .each-holds .ensures
-    ∙ sym (value-quantifier (a .table) (a .rows .now) (a .work .now) (a .at) (a .levels) (a .values) (c .before .before .before .before .before .before .before .if1 .left) _ _ (search needs) (sym (c .before .before .before .before .kind-of .ensures) ∙ c .before .before .every .given .1))
+    ∙ sym (value-quantifier (a .table) (a .rows .now) (a .work .now) (a .at) (a .levels) (a .values) some _ _ (search needs) told)
 
 evaluate-returns-8 : (t : ℕ) → evaluate-lts.Need-returns-8 (evaluate-calls t) (evaluate-at t) evaluate.Post
 evaluate-returns-8 t c =
     let a = c .before .before .before .before .before .before .before .before .args in
-    value-term (a .table) (a .rows .now) (a .work .now) (a .at) (a .levels) (a .values) (c .before .before .before .before .before .if1 .left) (sym (c .before .before .kind-of .ensures) ∙ c .enum-told2 .given .1)
+    let some = c .before .before .before .before .before .if1 .left in
+    let told = sym (c .before .before .kind-of .ensures) ∙ c .enum-told2 .given .1 in
+    value-term (a .table) (a .rows .now) (a .work .now) (a .at) (a .levels) (a .values) some told
 
 pair-holds-part-holds-requires : (t : ℕ) → pair-holds-lts.Need-part-holds-requires (pair-holds-calls t) (pair-holds-at t) pair-holds.Post
 pair-holds-part-holds-requires t c κs = search needs
@@ -405,8 +420,9 @@ pair-holds-connected-requires t c κs = search needs
 pair-holds-returns : (t : ℕ) → pair-holds-lts.Need-returns (pair-holds-calls t) (pair-holds-at t) pair-holds.Post
 pair-holds-returns t c =
     let a = c .before .before .before .before .before .before .args in
+    let truths = truthsAt (a .table) (a .rows .now) (a .levels) (a .values) (a .parts) (drop (a .at) (a .work .now)) in
     c .connected .ensures ∙ connect-settled (a .sign) _ _ _ (sym (c .before .before .first-settles .ensures) ∙ c .before .if1 .taken)
-    ∙ ap (λ (b : Bool). connect (connectiveOf (a .sign)) (b ∷ getD (truthsAt (a .table) (a .rows .now) (a .levels) (a .values) (a .parts) (drop (a .at) (a .work .now))) 1 false ∷ [])) (c .before .before .before .part-holds .ensures)
+    ∙ ap (λ (b : Bool). connect (connectiveOf (a .sign)) (b ∷ getD truths 1 false ∷ [])) (c .before .before .before .part-holds .ensures)
 
 pair-holds-part-holds-requires-2 : (t : ℕ) → pair-holds-lts.Need-part-holds-requires-2 (pair-holds-calls t) (pair-holds-at t) pair-holds.Post
 pair-holds-part-holds-requires-2 t c κs = search needs
@@ -433,7 +449,8 @@ part-holds-evaluate-requires t c κs = (omega arith, (c .past .ensures .1, omega
 part-holds-returns-2 : (t : ℕ) → part-holds-lts.Need-returns-2 (part-holds-calls t) (part-holds-at t) part-holds.Post
 part-holds-returns-2 t c =
     let a = c .before .before .before .before .before .args in
-    part-value (a .table) (a .rows .now) (a .levels) (a .values) (a .work .now) (a .at) (a .i) (a .parts) (c .before .past .result) _ (c .before .before .if1 .left) (c .before .past .ensures .0) (c .evaluate .ensures)
+    let place = c .before .past .ensures .0 in
+    part-value (a .table) (a .rows .now) (a .levels) (a .values) (a .work .now) (a .at) (a .i) (a .parts) _ _ (c .before .before .if1 .left) place (c .evaluate .ensures)
 
 abbrev parts-hold-Inv-loop : parts-hold-lts.InvT-loop
 parts-hold-Inv-loop work at levels every parts values table rows i₀ pending₀ i pending =
@@ -455,7 +472,9 @@ parts-hold-returns : (t : ℕ) → parts-hold-lts.Need-returns (parts-hold-calls
 parts-hold-returns t c =
     let a = c .before .before .before .before .before .before .before .args in
     let l = c .before .before .before .before .loop in
-    sym (l .inv .1 ∙ parts-settled (a .table) (a .rows .now) (a .levels) (a .values) (a .work .now) (l .i) (l .pending) (a .every) _ (omega arith) (c .before .before .evaluate .ensures) (sym (c .before .settles .ensures) ∙ c .if1 .taken))
+    let is = c .before .before .evaluate .ensures in
+    let settled = sym (c .before .settles .ensures) ∙ c .if1 .taken in
+    sym (l .inv .1 ∙ parts-settled (a .table) (a .rows .now) (a .levels) (a .values) (a .work .now) (l .i) (l .pending) (a .every) _ (omega arith) is settled)
 
 parts-hold-past-requires : (t : ℕ) → parts-hold-lts.Need-past-requires (parts-hold-calls t) (parts-hold-at t) parts-hold.Post parts-hold-Inv-loop parts-hold-μ-loop
 parts-hold-past-requires t c κs = search needs
@@ -469,9 +488,12 @@ parts-hold-loop-less t c = search needs
 parts-hold-loop-again : (t : ℕ) → parts-hold-lts.Need-loop-again (parts-hold-calls t) (parts-hold-at t) parts-hold.Post parts-hold-Inv-loop parts-hold-μ-loop
 parts-hold-loop-again t c =
     let a = c .before .before .before .before .before .before .before .before .args in
-    let l = c .before .before .before .before .before .loop in (
-      c .past .ensures .1,
-      l .inv .1 ∙ parts-open (a .table) (a .rows .now) (a .levels) (a .values) (a .work .now) (l .i) (l .pending) (a .every) _ (omega arith) (c .before .before .before .evaluate .ensures) _ (sym (c .before .before .settles .ensures) ∙ c .before .if1 .left) (c .past .ensures .0),
+    let l = c .before .before .before .before .before .loop in
+    let is = c .before .before .before .evaluate .ensures in
+    let unsettled = sym (c .before .before .settles .ensures) ∙ c .before .if1 .left in
+    let next = c .past .ensures in (
+      next .1,
+      l .inv .1 ∙ parts-open (a .table) (a .rows .now) (a .levels) (a .values) (a .work .now) (l .i) (l .pending) (a .every) _ (omega arith) is _ unsettled (next .0),
     )
 
 parts-hold-returns-2 : (t : ℕ) → parts-hold-lts.Need-returns-2 (parts-hold-calls t) (parts-hold-at t) parts-hold.Post parts-hold-Inv-loop parts-hold-μ-loop
@@ -537,6 +559,7 @@ pub +connective-holds+each-holds+element-holds+evaluate+pair-holds+part-holds+pa
     evaluate.Post
     (evaluate-returns t)
     (evaluate-returns-2 t)
+    (evaluate-sub-fewer t)
     (evaluate-mul-kind-of t)
     (evaluate-shared-slice-read-kind-of t)
     (evaluate-kind-of-requires t)
@@ -549,11 +572,9 @@ pub +connective-holds+each-holds+element-holds+evaluate+pair-holds+part-holds+pa
     (evaluate-equal-holds-requires t)
     (evaluate-enum-known-sign t)
     (evaluate-add-connective-holds t)
-    (evaluate-sub-connective-holds t)
     (evaluate-connective-holds-requires t)
     (evaluate-enum-known-every t)
     (evaluate-add-each-holds t)
-    (evaluate-sub-each-holds t)
     (evaluate-each-holds-requires t)
     (evaluate-enum-told-2 t)
     (evaluate-returns-3 t)

@@ -134,33 +134,45 @@ closed-at-enum-told-3 t c = search needs
 closed-at-returns-3 : (t : ℕ) → closed-at-lts.Need-returns-3 (closed-at-calls t) (closed-at-at t) closed-at.Post
 closed-at-returns-3 t c =
     let a = c .before .before .before .before .before .before .before .args in
-    closed-truth (a .work .now) (a .at) (a .levels) (a .flags) (c .before .before .before .before .before .if1 .left) _ (sym (c .before .before .kind-of .ensures) ∙ c .enum-told .given .1)
+    let some = c .before .before .before .before .before .if1 .left in
+    let told = sym (c .before .before .kind-of .ensures) ∙ c .enum-told .given .1 in
+    closed-truth (a .work .now) (a .at) (a .levels) (a .flags) some _ told
 
 closed-at-returns-4 : (t : ℕ) → closed-at-lts.Need-returns-4 (closed-at-calls t) (closed-at-at t) closed-at.Post
 closed-at-returns-4 t c =
     let a = c .before .before .before .before .before .before .before .before .before .args in
-    c .terms-closed .ensures ∙ sym (closed-atom (a .work .now) (a .at) (a .levels) (a .flags) (c .before .before .before .before .before .before .before .if1 .left) _ _ (sym (c .before .before .before .before .kind-of .ensures) ∙ c .before .before .terms .given .1))
+    let some = c .before .before .before .before .before .before .before .if1 .left in
+    let told = sym (c .before .before .before .before .kind-of .ensures) ∙ c .before .before .terms .given .1 in
+    c .terms-closed .ensures ∙ sym (closed-atom (a .work .now) (a .at) (a .levels) (a .flags) some _ _ told)
 
 closed-at-returns-5 : (t : ℕ) → closed-at-lts.Need-returns-5 (closed-at-calls t) (closed-at-at t) closed-at.Post
 closed-at-returns-5 t c =
     let a = c .before .before .before .before .before .before .before .before .args in
-    c .terms-closed2 .ensures ∙ sym (closed-equal (a .work .now) (a .at) (a .levels) (a .flags) (c .before .before .before .before .before .before .if1 .left) (sym (c .before .before .before .kind-of .ensures) ∙ c .before .enum-told2 .given .1))
+    let some = c .before .before .before .before .before .before .if1 .left in
+    let told = sym (c .before .before .before .kind-of .ensures) ∙ c .before .enum-told2 .given .1 in
+    c .terms-closed2 .ensures ∙ sym (closed-equal (a .work .now) (a .at) (a .levels) (a .flags) some told)
 
 closed-at-returns-6 : (t : ℕ) → closed-at-lts.Need-returns-6 (closed-at-calls t) (closed-at-at t) closed-at.Post
 closed-at-returns-6 t c =
     let a = c .before .before .before .before .before .before .before .before .before .args in
-    c .parts-closed .ensures ∙ sym (closed-connective (a .work .now) (a .at) (a .levels) (a .flags) (c .before .before .before .before .before .before .before .if1 .left) _ _ (sym (c .before .before .before .before .kind-of .ensures) ∙ c .before .before .parts .given .1))
+    let some = c .before .before .before .before .before .before .before .if1 .left in
+    let told = sym (c .before .before .before .before .kind-of .ensures) ∙ c .before .before .parts .given .1 in
+    c .parts-closed .ensures ∙ sym (closed-connective (a .work .now) (a .at) (a .levels) (a .flags) some _ _ told)
 
 closed-at-returns-7 : (t : ℕ) → closed-at-lts.Need-returns-7 (closed-at-calls t) (closed-at-at t) closed-at.Post
 closed-at-returns-7 t c =
     let a = c .before .before .before .before .before .before .before .before .before .before .args in
+    let some = c .before .before .before .before .before .before .before .before .if1 .left in
+    let told = sym (c .before .before .before .before .before .kind-of .ensures) ∙ c .before .before .before .variable .given .1 in
     c .parts-closed2 .ensures ∙ ap (λ (m : List Bool). allClosedAt (a .levels - 1) m 2 (drop (a .at + 1) (a .work .now))) (c .before .with-flag .ensures)
-    ∙ sym (closed-quantifier (a .work .now) (a .at) (a .levels) (a .flags) (c .before .before .before .before .before .before .before .before .if1 .left) _ _ (search needs) (sym (c .before .before .before .before .before .kind-of .ensures) ∙ c .before .before .before .variable .given .1))
+    ∙ sym (closed-quantifier (a .work .now) (a .at) (a .levels) (a .flags) some _ _ (search needs) told)
 
 closed-at-returns-8 : (t : ℕ) → closed-at-lts.Need-returns-8 (closed-at-calls t) (closed-at-at t) closed-at.Post
 closed-at-returns-8 t c =
     let a = c .before .before .before .before .before .before .before .args in
-    closed-term (a .work .now) (a .at) (a .levels) (a .flags) (c .before .before .before .before .before .if1 .left) (sym (c .before .before .kind-of .ensures) ∙ c .enum-told3 .given .1)
+    let some = c .before .before .before .before .before .if1 .left in
+    let told = sym (c .before .before .kind-of .ensures) ∙ c .enum-told3 .given .1 in
+    closed-term (a .work .now) (a .at) (a .levels) (a .flags) some told
 
 abbrev parts-closed-Inv-loop : parts-closed-lts.InvT-loop
 parts-closed-Inv-loop work at levels count flags i₀ pending₀ i pending =
@@ -179,7 +191,8 @@ parts-closed-returns : (t : ℕ) → parts-closed-lts.Need-returns (parts-closed
 parts-closed-returns t c =
     let a = c .before .before .before .before .before .args in
     let l = c .before .before .before .loop in
-    sym (l .inv .1 ∙ allClosed-stop (a .work .now) (l .i) (l .pending) (a .flags) (omega arith) (a .levels) (sym (c .before .closed-at .ensures) ∙ not-true _ (c .if1 .taken)))
+    let free = sym (c .before .closed-at .ensures) ∙ not-true _ (c .if1 .taken) in
+    sym (l .inv .1 ∙ allClosed-stop (a .work .now) (l .i) (l .pending) (a .flags) (omega arith) (a .levels) free)
 
 parts-closed-past-requires : (t : ℕ) → parts-closed-lts.Need-past-requires (parts-closed-calls t) (parts-closed-at t) parts-closed.Post parts-closed-Inv-loop parts-closed-μ-loop
 parts-closed-past-requires t c κs = search needs
@@ -193,10 +206,12 @@ parts-closed-loop-less t c = search needs
 parts-closed-loop-again : (t : ℕ) → parts-closed-lts.Need-loop-again (parts-closed-calls t) (parts-closed-at t) parts-closed.Post parts-closed-Inv-loop parts-closed-μ-loop
 parts-closed-loop-again t c =
     let a = c .before .before .before .before .before .before .args in
-    let l = c .before .before .before .before .loop in (
-      c .past .ensures .1,
-      l .inv .1 ∙ allClosed-more (a .work .now) (l .i) (l .pending) (a .flags) (omega arith) (a .levels) (sym (c .before .before .closed-at .ensures) ∙ not-false _ (c .before .if1 .left))
-          ∙ ap (λ (j : ℕ). allClosedAt (a .levels) (a .flags) (l .pending - 1) (drop j (a .work .now))) (sym (c .past .ensures .0)),
+    let l = c .before .before .before .before .loop in
+    let shut = sym (c .before .before .closed-at .ensures) ∙ not-false _ (c .before .if1 .left) in
+    let next = c .past .ensures in (
+      next .1,
+      l .inv .1 ∙ allClosed-more (a .work .now) (l .i) (l .pending) (a .flags) (omega arith) (a .levels) shut
+          ∙ ap (λ (j : ℕ). allClosedAt (a .levels) (a .flags) (l .pending - 1) (drop j (a .work .now))) (sym (next .0)),
     )
 
 parts-closed-returns-2 : (t : ℕ) → parts-closed-lts.Need-returns-2 (parts-closed-calls t) (parts-closed-at t) parts-closed.Post parts-closed-Inv-loop parts-closed-μ-loop

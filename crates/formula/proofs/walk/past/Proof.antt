@@ -2,7 +2,7 @@
 -- Assumes nothing.
 use borrow.Author.Needs.{needs}
 use native.Mathlib.Omega.{arith}
-use Prim.Native.Nat.{ℕ, _+_, _-_, _*_, _≤_}
+use Prim.Native.Nat.{_+_, _-_, _*_, _≤_}
 use mathlib.Core.Path.{_≡_, refl, ap, _∙_}
 use lib.ListN.{length, drop}
 use Rattle.formula.specs.memory.Kinds.{skip, partCount}
@@ -59,7 +59,8 @@ loop-again c =
     let a = c .before .before .before .before .before .before .before .before .args in
     let l = c .before .before .before .before .before .before .loop in
     let e = c .wide .ensures .0 ∙ c .before .part-count .ensures ∙ ap partCount (c .before .before .kind-of .ensures) in
-    (omega arith, omega arith, l .inv .2 ∙ rw e (skip-turn (a .work .now) (l .i) (l .pending) (c .before .before .before .before .if1 .left) (omega arith)), omega (arith, c .wide .ensures .1))
+    let turn = skip-turn (a .work .now) (l .i) (l .pending) (c .before .before .before .before .if1 .left) (omega arith) in
+    (omega arith, omega arith, l .inv .2 ∙ rw e turn, omega (arith, c .wide .ensures .1))
 
 returns-2 : tie.Need-returns-2 Inv-loop μ-loop
 returns-2 c =

@@ -13,7 +13,8 @@ use Rattle.formula.proofs.walk.walk.Tie as tie
 
 abbrev Inv-loop : tie.InvT-loop
 Inv-loop work at text path steps place₀ number₀ pending₀ place number pending =
-    (place ≤ length work) × (pending ≤ steps) × (number + pending ≤ length text + steps) × (placeOf work (numbersAt text path steps) at ≡ placeOf work (numbersAt text number pending) place)
+    (place ≤ length work) × (pending ≤ steps) × (number + pending ≤ length text + steps)
+    × (placeOf work (numbersAt text path steps) at ≡ placeOf work (numbersAt text number pending) place)
 
 abbrev μ-loop : tie.MeasureT-loop
 μ-loop work at text path steps place₀ number₀ pending₀ place number pending = pending
