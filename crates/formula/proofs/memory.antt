@@ -12,3 +12,4 @@ pub mod Storing
 pub mod Cursor
 pub mod Evaluated
 pub mod Kept
+pub mod Instances

@@ -6,3 +6,4 @@ pub mod Flags
 pub mod Values
 pub mod Storing
 pub mod Cursor
+pub mod Instances

@@ -1,6 +1,7 @@
 // Formulas: their text and reading, their meaning, and the rules on them.
 pub mod cursor;
 pub mod guard;
+pub mod instance;
 pub mod scope;
 pub mod store;
 pub mod walk;

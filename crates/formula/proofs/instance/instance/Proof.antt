@@ -1,0 +1,84 @@
+-- `instance::instance` copies a range with an element for a variable. The invariant: what is made of the rest of the range is still to be stored.
+-- Assumes nothing.
+use borrow.Author.Needs.{needs}
+use native.Mathlib.Omega.{arith}
+use Prim.Native.Nat.{_-_, _*_, _≤_}
+use lib.Seq.{slice, length-slice}
+use Rattle.formula.specs.memory.Instances.{wordsWith}
+use Rattle.formula.proofs.memory.Storing.{Ahead, ahead-start, ahead-turn, ahead-end, ahead-length, ahead-read}
+use Rattle.formula.proofs.memory.Instances.{wordsWith-next, wordsWith-none, length-wordsWith}
+use Rattle.formula.proofs.instance.instance.Statement.{statement}
+use Rattle.formula.proofs.instance.instance.Tie as tie
+
+abbrev Inv-loop : tie.InvT-loop
+Inv-loop work₀ at end x v to held₀ i₀ j₀ work held i j =
+    (at ≤ i) × (i ≤ end) × (held ≤ (i - at) * 4294967296) × Ahead work₀ to (wordsWith x v (slice at end work₀) 0) work j (wordsWith x v (slice i end work₀) held)
+
+abbrev μ-loop : tie.MeasureT-loop
+μ-loop work₀ at end x v to held₀ i₀ j₀ work held i j = end - i
+
+loop-holds : tie.Need-loop-holds Inv-loop μ-loop
+loop-holds c = (omega arith, omega arith, omega arith, ahead-start _ _ _)
+
+mul-word : tie.Need-mul-word Inv-loop μ-loop
+mul-word c = omega (arith, ahead-length (c .before .loop .inv .3))
+
+slice-read-word : tie.Need-slice-read-word Inv-loop μ-loop
+slice-read-word c = omega (arith, ahead-length (c .before .before .loop .inv .3))
+
+word-with-requires : tie.Need-word-with-requires Inv-loop μ-loop
+word-with-requires c κs = search needs
+
+put-requires : tie.Need-put-requires Inv-loop μ-loop
+put-requires c κs =
+    let a = c .before .before .before .before .before .before .args in
+    let s = slice (a .at) (a .end) (a .work .now) in
+    omega (arith, c .before .before .before .before .loop .inv .3 .ends, length-wordsWith (a .x) (a .v) s 0, length-slice (a .at) (a .end) (a .work .now) (omega arith))
+
+held-after-requires : tie.Need-held-after-requires Inv-loop μ-loop
+held-after-requires c κs = search needs
+
+add-i : tie.Need-add-i Inv-loop μ-loop
+add-i c = search needs
+
+loop-less : tie.Need-loop-less Inv-loop μ-loop
+loop-less c = search needs
+
+loop-again : tie.Need-loop-again Inv-loop μ-loop
+loop-again c =
+    let a = c .before .before .before .before .before .before .before .before .before .before .args in
+    let l = c .before .before .before .before .before .before .before .before .loop in
+    let same = ahead-read (l .inv .3) (l .i) (omega arith) in (
+      omega arith,
+      omega arith,
+      omega (arith, c .held-after .ensures .1),
+      ahead-turn (l .inv .3)
+          (rw (c .before .before .before .before .word-with .ensures, c .held-after .ensures .0, same) (wordsWith-next (a .x) (a .v) (a .work .now) (a .end) (l .held) (l .i) (omega arith) (omega arith)))
+          (c .before .before .before .put .ensures),
+    )
+
+same-length : tie.Need-same-length Inv-loop μ-loop
+same-length c = ahead-length (c .before .loop .inv .3)
+
+returns : tie.Need-returns Inv-loop μ-loop
+returns c =
+    let a = c .before .before .before .args in
+    ahead-end (c .before .loop .inv .3) (wordsWith-none (a .x) (a .v) (a .work .now) (a .end) (c .before .loop .held) (c .before .loop .i) (omega arith))
+
+pub instance-spec : {M : Type 1} → statement M
+instance-spec =
+    tie.close
+    (tie.spec
+    Inv-loop
+    μ-loop
+    loop-holds
+    mul-word
+    slice-read-word
+    word-with-requires
+    put-requires
+    held-after-requires
+    add-i
+    loop-less
+    loop-again
+    same-length
+    returns)

@@ -1,0 +1,78 @@
+-- `instance::instances` makes a copy for each element whose flag is set. The invariant: the copies for the elements from the next one on are still to be stored.
+-- Assumes nothing.
+use borrow.Author.Needs.{needs}
+use native.Mathlib.Omega.{arith}
+use Prim.Native.Nat.{_+_, _-_, _≤_}
+use lib.ListN.{take}
+use lib.Seq.{slice}
+use Rattle.formula.specs.memory.Instances.{copies}
+use Rattle.formula.proofs.memory.Storing.{Ahead, ahead-start, ahead-turn, ahead-end, ahead-length, ahead-slice}
+use Rattle.formula.proofs.memory.Instances.{copies-next, copies-none, copies-near}
+use Rattle.formula.proofs.instance.instances.Statement.{statement}
+use Rattle.formula.proofs.instance.instances.Tie as tie
+
+abbrev Inv-loop : tie.InvT-loop
+Inv-loop work₀ at end x domain to flags i₀ j₀ work i j =
+    (i ≤ domain) × Ahead work₀ to (copies (take domain flags) x (slice at end work₀) 1) work j (copies (slice i domain flags) x (slice at end work₀) (i + 1))
+
+abbrev μ-loop : tie.MeasureT-loop
+μ-loop work₀ at end x domain to flags i₀ j₀ work i j = domain - i
+
+loop-holds : tie.Need-loop-holds Inv-loop μ-loop
+loop-holds c = (omega arith, ahead-start _ _ _)
+
+cast-instance-if : tie.Need-cast-instance-if Inv-loop μ-loop
+cast-instance-if c = search needs
+
+array-read-instance-if : tie.Need-array-read-instance-if Inv-loop μ-loop
+array-read-instance-if c = search needs
+
+add-instance-if : tie.Need-add-instance-if Inv-loop μ-loop
+add-instance-if c = search needs
+
+instance-if-requires : tie.Need-instance-if-requires Inv-loop μ-loop
+instance-if-requires c κs =
+    let a = c .before .before .before .before .args in
+    let l = c .before .before .loop in
+    omega (arith, l .inv .1 .after, l .inv .1 .ends, ahead-length (l .inv .1), copies-near (a .t5) (a .domain) (a .x) (a .work .now) (a .at) (a .end) 1 (omega arith), c .before .before .before .before .pre .0)
+
+add-i : tie.Need-add-i Inv-loop μ-loop
+add-i c = search needs
+
+loop-less : tie.Need-loop-less Inv-loop μ-loop
+loop-less c = search needs
+
+loop-again : tie.Need-loop-again Inv-loop μ-loop
+loop-again c =
+    let a = c .before .before .before .before .before .before .before .args in
+    let l = c .before .before .before .before .before .loop in (
+      omega arith,
+      ahead-turn (l .inv .1)
+          (rw (ahead-slice (l .inv .1) (a .at) (a .end) (omega (arith, c .before .before .before .before .before .before .before .pre .0))) (copies-next (a .t5) (a .domain) (l .i) (omega arith) (search needs) (a .x) (slice (a .at) (a .end) (a .work .now))))
+          (c .before .before .instance-if .ensures),
+    )
+
+same-length : tie.Need-same-length Inv-loop μ-loop
+same-length c = ahead-length (c .before .loop .inv .1)
+
+returns : tie.Need-returns Inv-loop μ-loop
+returns c =
+    let a = c .before .before .before .args in
+    ahead-end (c .before .loop .inv .1) (copies-none (a .t5) (a .domain) (c .before .loop .i) (a .x) (slice (a .at) (a .end) (a .work .now)) (c .before .loop .i + 1) (omega arith))
+
+pub instances-spec : {M : Type 1} → statement M
+instances-spec =
+    tie.close
+    (tie.spec
+    Inv-loop
+    μ-loop
+    loop-holds
+    cast-instance-if
+    array-read-instance-if
+    add-instance-if
+    instance-if-requires
+    add-i
+    loop-less
+    loop-again
+    same-length
+    returns)

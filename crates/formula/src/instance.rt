@@ -1,0 +1,176 @@
+// IQ in memory: the body of a quantifier is copied once for each element whose flag is set, with the element for the variable.
+use crate::store::copy;
+use crate::store::put;
+use crate::walk::past;
+use crate::word::kind_of;
+use crate::word::part_count;
+ghost use mathlib.Core.Path.{_≡_};
+ghost use mathlib.Core.List.{[]};
+ghost use mathlib.Core.Bool.{cond};
+ghost use Prim.Native.Nat.{_+_, _≤_, _<_};
+ghost use lib.ListN.{getD, take};
+ghost use lib.Seq.{slice};
+ghost use Rattle.formula.specs.memory.Kinds.{kindOf, partCount};
+ghost use Rattle.formula.specs.memory.Storing.{Stores, Behind, Placed, Rewritten};
+ghost use Rattle.formula.specs.memory.Instances.{wordWith, heldAfter, wordsWith, copies, setCount, junctionFor, instantiatedWords};
+
+// A word with an element for a variable, where some formulas are still to be copied as they are.
+fn word_with(x: u32, v: u32, held: usize, word: u32) -> u32
+    requires { ⌜ (x < 268435456) × (v < 256) ⌝ }
+    ensures { λ r. ⌜ r ≡ wordWith x v held word ⌝ }
+{
+    if held > 0 {
+        return word;
+    }
+    if word == x * 16 + 13 {
+        return v * 16 + 12;
+    }
+    word
+}
+
+fn parts_of(word: u32) -> usize
+    ensures { λ r. ⌜ (r ≡ partCount (kindOf word)) × (r < 4294967296) ⌝ }
+{
+    part_count(kind_of(word)) as usize
+}
+
+// How many formulas are to be copied as they are after a word.
+fn held_after(x: u32, held: usize, word: u32) -> usize
+    requires { ⌜ (x < 268435456) × (held < 1000000000000000) ⌝ }
+    ensures { λ r. ⌜ (r ≡ heldAfter x held word) × (r ≤ held + 4294967296) ⌝ }
+{
+    if held > 0 {
+        return held - 1 + parts_of(word);
+    }
+    if word == x * 16 + 8 {
+        return 2;
+    }
+    if word == x * 16 + 9 {
+        return 2;
+    }
+    0
+}
+
+// Copies a range with an element for a variable.
+pub fn instance(work: &mut [u32], at: usize, end: usize, x: u32, v: u32, to: usize) -> usize
+    requires { ⌜ Behind (now work) at end to × (x < 268435456) × (v < 256) ⌝ }
+    ensures { λ r. ⌜ Stores (now (work .entry)) to (wordsWith x v (slice at end (now (work .entry))) 0) r (now (work .exit)) ⌝ }
+{
+    let mut held: usize = 0;
+    let mut i = at;
+    let mut j = to;
+    while i < end {
+        let word = work[i];
+        j = put(work, j, word_with(x, v, held, word));
+        held = held_after(x, held, word);
+        i += 1;
+    }
+    j
+}
+
+fn instance_if(
+    work: &mut [u32],
+    chosen: bool,
+    at: usize,
+    end: usize,
+    x: u32,
+    v: u32,
+    to: usize,
+) -> usize
+    requires { ⌜ Behind (now work) at end to × (x < 268435456) × (v < 256) ⌝ }
+    ensures { λ r. ⌜ Stores (now (work .entry)) to (cond chosen (wordsWith x v (slice at end (now (work .entry))) 0) []) r (now (work .exit)) ⌝ }
+{
+    if chosen {
+        return instance(work, at, end, x, v, to);
+    }
+    to
+}
+
+// The copies for all elements, in ascending order.
+pub fn instances(
+    work: &mut [u32],
+    at: usize,
+    end: usize,
+    x: u32,
+    flags: [bool; 64],
+    domain: u32,
+    to: usize,
+) -> usize
+    requires { ⌜ Behind (now work) at end to × (to ≤ 1000000) × (x < 268435456) × (domain ≤ 64) ⌝ }
+    ensures { λ r. ⌜ Stores (now (work .entry)) to (copies (take domain flags) x (slice at end (now (work .entry))) 1) r (now (work .exit)) ⌝ }
+{
+    let mut i: u32 = 0;
+    let mut j = to;
+    while i < domain {
+        j = instance_if(work, flags[i as usize], at, end, x, i + 1, j);
+        i += 1;
+    }
+    j
+}
+
+fn one_if(chosen: bool) -> u32
+    ensures { λ r. ⌜ (r ≡ cond chosen 1 0) × (r ≤ 1) ⌝ }
+{
+    if chosen { 1 } else { 0 }
+}
+
+// How many of the first flags are set.
+fn set_count(flags: [bool; 64], domain: u32) -> u32
+    requires { ⌜ domain ≤ 64 ⌝ }
+    ensures { λ r. ⌜ (r ≡ setCount (take domain flags)) × (r ≤ domain) ⌝ }
+{
+    let mut i: u32 = 0;
+    let mut count: u32 = 0;
+    while i < domain {
+        count += one_if(flags[i as usize]);
+        i += 1;
+    }
+    count
+}
+
+// The word of the connective that takes a quantifier's place.
+fn junction_for(word: u32, count: u32) -> u32
+    requires { ⌜ count ≤ 64 ⌝ }
+    ensures { λ r. ⌜ r ≡ junctionFor word count ⌝ }
+{
+    if word % 16 == 8 {
+        return count * 16 + 3;
+    }
+    count * 16 + 4
+}
+
+// What is made of the quantifier from `at` to `end`.
+fn instantiated(
+    work: &mut [u32],
+    at: usize,
+    end: usize,
+    flags: [bool; 64],
+    domain: u32,
+    to: usize,
+) -> usize
+    requires { ⌜ Behind (now work) at end to × (at < end) × (to ≤ 100000) × (domain ≤ 64) ⌝ }
+    ensures { λ r. ⌜ Stores (now (work .entry)) to (instantiatedWords (getD (now (work .entry)) at 0) (slice (at + 1) end (now (work .entry))) (take domain flags)) r (now (work .exit)) ⌝ }
+{
+    let word = work[at];
+    let body = past(&work[..end], at + 1, 1);
+    let next = put(work, to, junction_for(word, set_count(flags, domain)));
+    instances(work, body, end, word / 16, flags, domain, next)
+}
+
+// The theory with IQ done on the quantifier from `at` to `end`.
+pub fn instantiate(
+    work: &mut [u32],
+    at: usize,
+    end: usize,
+    full: usize,
+    to: usize,
+    flags: [bool; 64],
+    domain: u32,
+) -> usize
+    requires { ⌜ Placed (now work) at end full to × (at < end) × (domain ≤ 64) ⌝ }
+    ensures { λ r. ⌜ Rewritten (now (work .entry)) at end full to (instantiatedWords (getD (now (work .entry)) at 0) (slice (at + 1) end (now (work .entry))) (take domain flags)) r (now (work .exit)) ⌝ }
+{
+    let place = copy(work, 0, at, to);
+    let next = instantiated(work, at, end, flags, domain, place);
+    copy(work, end, full, next) - to
+}
