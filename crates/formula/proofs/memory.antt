@@ -13,3 +13,6 @@ pub mod Cursor
 pub mod Evaluated
 pub mod Kept
 pub mod Instances
+pub mod Replaced
+pub mod Standing
+pub mod Instantiated
