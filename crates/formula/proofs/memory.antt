@@ -16,3 +16,6 @@ pub mod Instances
 pub mod Replaced
 pub mod Standing
 pub mod Instantiated
+pub mod ClauseText
+pub mod NameTable
+pub mod Variables

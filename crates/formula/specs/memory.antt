@@ -7,3 +7,5 @@ pub mod Values
 pub mod Storing
 pub mod Cursor
 pub mod Instances
+pub mod ClauseText
+pub mod NameTable

@@ -1,0 +1,44 @@
+-- `name_table::list_name` puts a name behind the others, unless it is there or there is no room.
+-- Assumes nothing.
+use borrow.Author.Needs.{needs}
+use native.Mathlib.Omega.{arith}
+use mathlib.Core.Path.{_≡_}
+use Rattle.formula.proofs.memory.NameTable.{listed-there, listed-full, listed-new}
+use Rattle.formula.proofs.name_table.list_name.Statement.{statement}
+use Rattle.formula.proofs.name_table.list_name.Tie as tie
+
+find-name-requires : tie.Need-find-name-requires
+find-name-requires c κs = search needs
+
+name-count-requires : tie.Need-name-count-requires
+name-count-requires c κs = search needs
+
+returns : tie.Need-returns
+returns c =
+    let a = c .before .before .before .before .before .before .args in
+    listed-there (a .text .now) (a .at) (a .size) (a .names .now) (c .before .before .before .find-name .result) (c .before .before .before .find-name .ensures) (omega (arith, c .before .name-count .ensures))
+
+with-name-requires : tie.Need-with-name-requires
+with-name-requires c κs = search needs
+
+returns-2 : tie.Need-returns-2
+returns-2 c =
+    let a = c .before .before .before .before .before .before .before .before .before .args in
+    rw (c .with-name .ensures .0)
+    (listed-new (a .text .now) (a .at) (a .size) (a .names .now) (c .before .before .before .before .before .before .find-name .result) (c .before .before .before .before .before .before .find-name .ensures) (c .with-name .ensures .1) (omega (arith, c .before .before .before .before .name-count .ensures)) (c .before .before .if2 .taken))
+
+returns-3 : tie.Need-returns-3
+returns-3 c =
+    let a = c .before .before .before .before .before .before .before .args in
+    listed-full (a .text .now) (a .at) (a .size) (a .names .now) (c .before .before .before .before .find-name .result) (c .before .before .before .before .find-name .ensures) (c .if2 .left)
+
+pub list-name-spec : {M : Type 1} → statement M
+list-name-spec =
+    tie.close
+    (tie.spec
+    find-name-requires
+    name-count-requires
+    returns
+    with-name-requires
+    returns-2
+    returns-3)

@@ -1,0 +1,77 @@
+-- `name_table::names_fit` looks at one name after another. The invariant: the table fits if the names that are left are short.
+-- Assumes nothing.
+use borrow.Author.Needs.{needs}
+use native.Mathlib.Omega.{arith}
+use Prim.Native.Nat.{ℕ, _+_, _-_, _≤_}
+use mathlib.Core.Path.{_≡_, refl, sym, ap, _∙_}
+use borrow.Author.Tests.{not-true, not-false}
+use Rattle.text.specs.memory.Table.{indexed}
+use Rattle.formula.specs.Limits.{namesShort}
+use Rattle.formula.specs.memory.NameTable.{nameIn, namesIn, listFits}
+use Rattle.formula.proofs.memory.NameTable.{short-none, short-stop, short-next, fits-few, fits-short}
+use Rattle.formula.proofs.name_table.names_fit.Statement.{statement}
+use Rattle.formula.proofs.name_table.names_fit.Tie as tie
+
+abbrev Inv-loop : tie.InvT-loop
+Inv-loop text names count i₀ i =
+    (i ≤ count) × (count ≤ 64) × (listFits (namesIn text names) ≡ namesShort (indexed (nameIn text names) i (count - i)))
+
+abbrev μ-loop : tie.MeasureT-loop
+μ-loop text names count i₀ i = count - i
+
+name-count-requires : tie.Need-name-count-requires Inv-loop μ-loop
+name-count-requires c κs = search needs
+
+returns : tie.Need-returns Inv-loop μ-loop
+returns c =
+    let a = c .before .before .before .args in
+    fits-few (a .text .now) (a .names .now) (c .before .name-count .result) (c .before .name-count .ensures) (c .if1 .taken)
+
+loop-holds : tie.Need-loop-holds Inv-loop μ-loop
+loop-holds c =
+    let a = c .before .before .before .args in
+    (omega arith, omega arith, fits-short (a .text .now) (a .names .now) (c .before .name-count .result) (c .before .name-count .ensures) (omega arith))
+
+is-short-requires : tie.Need-is-short-requires Inv-loop μ-loop
+is-short-requires c κs = search needs
+
+returns-2 : tie.Need-returns-2 Inv-loop μ-loop
+returns-2 c =
+    let a = c .before .before .before .before .before .before .before .args in
+    let l = c .before .before .before .loop in
+    sym (l .inv .2 ∙ short-stop (nameIn (a .text .now) (a .names .now)) (l .i) (c .before .before .before .before .before .name-count .result - l .i) (omega arith) (sym (c .before .is-short .ensures) ∙ not-true _ (c .if2 .taken)))
+
+add-i : tie.Need-add-i Inv-loop μ-loop
+add-i c = search needs
+
+loop-less : tie.Need-loop-less Inv-loop μ-loop
+loop-less c = search needs
+
+loop-again : tie.Need-loop-again Inv-loop μ-loop
+loop-again c =
+    let a = c .before .before .before .before .before .before .before .args in
+    let l = c .before .before .before .loop in
+    let e : c .before .before .before .before .before .name-count .result - l .i - 1 ≡ c .before .before .before .before .before .name-count .result - (l .i + 1) = omega arith in
+    (omega arith, omega arith, l .inv .2 ∙ short-next (nameIn (a .text .now) (a .names .now)) (l .i) (c .before .before .before .before .before .name-count .result - l .i) (omega arith) (sym (c .before .is-short .ensures) ∙ not-false _ (c .if2 .left)) ∙ rw e)
+
+returns-3 : tie.Need-returns-3 Inv-loop μ-loop
+returns-3 c =
+    let a = c .before .before .before .before .before .args in
+    let l = c .before .loop in
+    sym (l .inv .2 ∙ short-none (nameIn (a .text .now) (a .names .now)) (l .i) (c .before .before .before .name-count .result - l .i) (omega arith))
+
+pub names-fit-spec : {M : Type 1} → statement M
+names-fit-spec =
+    tie.close
+    (tie.spec
+    Inv-loop
+    μ-loop
+    name-count-requires
+    returns
+    loop-holds
+    is-short-requires
+    returns-2
+    add-i
+    loop-less
+    loop-again
+    returns-3)
