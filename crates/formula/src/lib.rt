@@ -2,8 +2,8 @@
 pub mod cursor;
 pub mod guard;
 pub mod instance;
-pub mod print;
 pub mod name_table;
+pub mod print;
 pub mod scope;
 pub mod store;
 pub mod walk;

@@ -16,3 +16,9 @@ pub mod Packing
 pub mod Found
 pub mod Separated
 pub mod LinePlaces
+pub mod DeclarationPlaces
+pub mod FoundBytes
+pub mod Listing
+pub mod RelationPlaces
+pub mod RowPlaces
+pub mod RowsKept

@@ -3,3 +3,5 @@ pub mod Found
 pub mod Numbers
 pub mod Table
 pub mod RuleLines
+pub mod Declarations
+pub mod Rows

@@ -1,0 +1,48 @@
+-- `declaration::domain_at` reads `domain=` and a number behind it.
+-- Assumes nothing.
+use borrow.Author.Needs.{needs}
+use native.Mathlib.Omega.{arith}
+use mathlib.Core.Path.{_≡_, sym, _∙_}
+use borrow.Author.Tests.{not-true, not-false}
+use Rattle.text.specs.Bytes.{bytes}
+use Rattle.text.proofs.DeclarationPlaces.{domain-misspelled, domain-behind}
+use Rattle.text.proofs.Found.{word-found}
+use Rattle.text.proofs.declaration.domain_at.Statement.{statement}
+use Rattle.text.proofs.declaration.domain_at.Tie as tie
+
+slice-aggregate-begins-at : tie.Need-slice-aggregate-begins-at
+slice-aggregate-begins-at c = search needs
+
+begins-at-requires : tie.Need-begins-at-requires
+begins-at-requires c κs = search needs
+
+returns : tie.Need-returns
+returns c =
+    let a = c .before .before .before .before .args in
+    domain-misspelled (a .text .now) (a .at) (sym (c .before .begins-at .ensures) ∙ not-true _ (c .if1 .taken))
+
+add-last-number : tie.Need-add-last-number
+add-last-number c = search needs
+
+last-number-requires : tie.Need-last-number-requires
+last-number-requires c κs =
+    let a = c .before .before .before .before .args in
+    let w = word-found (a .text .now) (a .at) (bytes "domain=") (c .before .before .before .before .pre) (sym (c .before .begins-at .ensures) ∙ not-false _ (c .if1 .left)) in
+    omega (arith, w .within)
+
+returns-2 : tie.Need-returns-2
+returns-2 c =
+    let a = c .before .before .before .before .before .args in
+    let w = word-found (a .text .now) (a .at) (bytes "domain=") (c .before .before .before .before .before .pre) (sym (c .before .before .begins-at .ensures) ∙ not-false _ (c .before .if1 .left)) in
+    domain-behind (a .text .now) (a .at) w (c .last-number .result) (c .last-number .ensures)
+
+pub domain-at-spec : {M : Type 1} → statement M
+domain-at-spec =
+    tie.close
+    (tie.spec
+    slice-aggregate-begins-at
+    begins-at-requires
+    returns
+    add-last-number
+    last-number-requires
+    returns-2)

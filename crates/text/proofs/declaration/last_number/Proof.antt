@@ -1,0 +1,87 @@
+-- `declaration::last_number` reads a number and the LF behind it.
+-- Assumes nothing.
+use borrow.Author.Needs.{needs}
+use native.Mathlib.Omega.{arith}
+use mathlib.Core.Path.{_≡_, sym, subst, _∙_}
+use Rattle.text.specs.memory.Numbers.{ToldNumber}
+use Rattle.text.proofs.DeclarationPlaces.{last-misspelled, last-small, last-small-unended, last-large, last-large-unended}
+use Rattle.text.proofs.FoundBytes.{byte-inside}
+use Rattle.text.proofs.declaration.last_number.Statement.{statement}
+use Rattle.text.proofs.declaration.last_number.Tie as tie
+
+number-at-requires : tie.Need-number-at-requires
+number-at-requires c κs = search needs
+
+enum-known-next : tie.Need-enum-known-next
+enum-known-next c = search needs
+
+peek-requires : tie.Need-peek-requires
+peek-requires c κs = search needs
+
+returns : tie.Need-returns
+returns c =
+    let a = c .before .before .before .before .before .before .before .args in
+    last-small-unended (a .text .now) (a .at) (c .before .before .before .next .given .0 .0) (c .before .before .before .next .given .0 .1 .0)
+    (subst (ToldNumber (a .text .now) (a .at)) (c .before .before .before .next .given .1) (c .before .before .before .before .before .number-at .ensures)) (λ e. c .if1 .taken (c .before .peek .ensures ∙ e))
+
+add-t10 : tie.Need-add-t10
+add-t10 c =
+    let a = c .before .before .before .before .before .before .before .args in
+    let h = byte-inside (a .text .now) (c .before .before .before .next .given .0 .0) 10 (omega arith) (sym (c .before .peek .ensures) ∙ c .if1 .left) in
+    omega arith
+
+enum-known-next-2 : tie.Need-enum-known-next-2
+enum-known-next-2 c = search needs
+
+peek-requires-2 : tie.Need-peek-requires-2
+peek-requires-2 c κs = search needs
+
+returns-2 : tie.Need-returns-2
+returns-2 c =
+    let a = c .before .before .before .before .before .before .before .args in
+    last-large-unended (a .text .now) (a .at) (c .before .before .before .next2 .given .0 .0)
+    (subst (ToldNumber (a .text .now) (a .at)) (c .before .before .before .next2 .given .1) (c .before .before .before .before .before .number-at .ensures)) (λ e. c .if2 .taken (c .before .peek2 .ensures ∙ e))
+
+add-t13 : tie.Need-add-t13
+add-t13 c =
+    let a = c .before .before .before .before .before .before .before .args in
+    let h = byte-inside (a .text .now) (c .before .before .before .next2 .given .0 .0) 10 (omega arith) (sym (c .before .peek2 .ensures) ∙ c .if2 .left) in
+    omega arith
+
+enum-told : tie.Need-enum-told
+enum-told c = search needs
+
+returns-3 : tie.Need-returns-3
+returns-3 c =
+    let a = c .before .before .before .before .before .before .before .args in
+    last-small (a .text .now) (a .at) (c .before .before .before .next .given .0 .0) (c .before .before .before .next .given .0 .1 .0)
+    (subst (ToldNumber (a .text .now) (a .at)) (c .before .before .before .next .given .1) (c .before .before .before .before .before .number-at .ensures)) (sym (c .before .peek .ensures) ∙ c .if1 .left)
+
+returns-4 : tie.Need-returns-4
+returns-4 c =
+    let a = c .before .before .before .before .before .before .before .args in
+    last-large (a .text .now) (a .at) (c .before .before .before .next2 .given .0 .0)
+    (subst (ToldNumber (a .text .now) (a .at)) (c .before .before .before .next2 .given .1) (c .before .before .before .before .before .number-at .ensures)) (sym (c .before .peek2 .ensures) ∙ c .if2 .left)
+
+returns-5 : tie.Need-returns-5
+returns-5 c =
+    let a = c .before .before .before .before .args in
+    last-misspelled (a .text .now) (a .at) (subst (ToldNumber (a .text .now) (a .at)) (c .enum-told .given .1) (c .before .before .number-at .ensures))
+
+pub last-number-spec : {M : Type 1} → statement M
+last-number-spec =
+    tie.close
+    (tie.spec
+    number-at-requires
+    enum-known-next
+    peek-requires
+    returns
+    add-t10
+    enum-known-next-2
+    peek-requires-2
+    returns-2
+    add-t13
+    enum-told
+    returns-3
+    returns-4
+    returns-5)

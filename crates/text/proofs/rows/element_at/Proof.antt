@@ -1,0 +1,53 @@
+-- `rows::element_at` reads a number and adds it to a row; one too large to be told is no element.
+-- Assumes nothing.
+use borrow.Author.Needs.{needs}
+use mathlib.Core.Path.{_≡_, subst}
+use Rattle.text.specs.memory.Numbers.{ToldNumber}
+use Rattle.text.proofs.RowPlaces.{element-small, element-large}
+use Rattle.text.proofs.rows.element_at.Statement.{statement}
+use Rattle.text.proofs.rows.element_at.Tie as tie
+
+number-at-requires : tie.Need-number-at-requires
+number-at-requires c κs = search needs
+
+enum-known-next : tie.Need-enum-known-next
+enum-known-next c = search needs
+
+extended-requires : tie.Need-extended-requires
+extended-requires c κs = search needs
+
+enum-known-next-2 : tie.Need-enum-known-next-2
+enum-known-next-2 c = search needs
+
+enum-told : tie.Need-enum-told
+enum-told c = search needs
+
+returns : tie.Need-returns
+returns c =
+    let a = c .before .before .before .before .before .before .args in
+    element-small (a .domain) (a .text .now) (a .at) (a .row) (c .before .before .next .given .0 .0) (c .before .before .next .given .0 .1 .0)
+    (subst (ToldNumber (a .text .now) (a .at)) (c .before .before .next .given .1) (c .before .before .before .before .number-at .ensures)) (c .extended .result) (c .extended .ensures)
+
+returns-2 : tie.Need-returns-2
+returns-2 c =
+    let a = c .before .before .before .before .before .args in
+    element-large (a .domain) (a .text .now) (a .at) (a .row) (c .before .next2 .given .0 .0) (c .before .before .before .before .before .pre .1)
+    (subst (ToldNumber (a .text .now) (a .at)) (c .before .next2 .given .1) (c .before .before .before .number-at .ensures))
+
+returns-3 : tie.Need-returns-3
+returns-3 c =
+    let a = c .before .before .before .before .args in
+    record { is = subst (ToldNumber (a .text .now) (a .at)) (c .enum-told .given .1) (c .before .before .number-at .ensures) 3 }
+
+pub element-at-spec : {M : Type 1} → statement M
+element-at-spec =
+    tie.close
+    (tie.spec
+    number-at-requires
+    enum-known-next
+    extended-requires
+    enum-known-next-2
+    enum-told
+    returns
+    returns-2
+    returns-3)

@@ -1,0 +1,80 @@
+-- `rows::extended` adds an element to a row, or tells why none can come of it.
+-- Assumes nothing.
+use borrow.Author.Needs.{needs}
+use native.Mathlib.Omega.{arith}
+use mathlib.Core.Path.{_≡_, subst}
+use Rattle.text.specs.memory.Rows.{RowBounded}
+use Rattle.text.proofs.RowsKept.{row-below, row-above, row-unfit, row-long, row-more}
+use Rattle.text.proofs.rows.extended.Statement.{statement}
+use Rattle.text.proofs.rows.extended.Tie as tie
+
+enum-known-row : tie.Need-enum-known-row
+enum-known-row c = search needs
+
+returns : tie.Need-returns
+returns c =
+    let a = c .before .before .before .before .args in
+    rw (c .before .before .row .given .1) (row-long (a .domain) (a .v) (c .before .before .row .given .0 .0) (c .before .before .row .given .0 .1 .0) (c .before .before .row .given .0 .1 .1 .0) (c .if1 .taken))
+
+returns-2 : tie.Need-returns-2
+returns-2 c =
+    let a = c .before .before .before .before .before .args in
+    row-below (a .domain) (a .v) (a .row) (c .if2 .taken)
+
+returns-3 : tie.Need-returns-3
+returns-3 c =
+    let a = c .before .before .before .before .before .before .args in
+    row-above (a .domain) (a .v) (a .row) (c .if3 .taken)
+
+add-t9 : tie.Need-add-t9
+add-t9 c = search needs
+
+placed-at-requires : tie.Need-placed-at-requires
+placed-at-requires c κs = search needs
+
+add-t11 : tie.Need-add-t11
+add-t11 c =
+    let b = subst RowBounded (c .before .before .before .before .before .row .given .1) (c .before .before .before .before .before .before .before .pre .1) in
+    omega (arith, c .placed-at .ensures .1)
+
+mul-t12 : tie.Need-mul-t12
+mul-t12 c =
+    let b = subst RowBounded (c .before .before .before .before .before .row .given .1) (c .before .before .before .before .before .before .before .pre .1) in
+    omega arith
+
+add-t13 : tie.Need-add-t13
+add-t13 c =
+    let b = subst RowBounded (c .before .before .before .before .before .row .given .1) (c .before .before .before .before .before .before .before .pre .1) in
+    omega arith
+
+enum-told : tie.Need-enum-told
+enum-told c = search needs
+
+returns-4 : tie.Need-returns-4
+returns-4 c =
+    let a = c .before .before .before .before .before .before .before .args in
+    rw (c .before .before .before .before .before .row .given .1)
+    (row-more (a .domain) (a .v) (c .before .before .before .before .before .row .given .0 .0) (c .before .before .before .before .before .row .given .0 .1 .0) (c .before .before .before .before .before .row .given .0 .1 .1 .0)
+    (c .before .before .before .if1 .left) (c .before .before .if2 .left) (c .before .if3 .left) (c .placed-at .result) (c .placed-at .ensures .0))
+
+returns-5 : tie.Need-returns-5
+returns-5 c =
+    let a = c .before .before .args in
+    rw (c .enum-told .given .1) (row-unfit (a .domain) (a .v))
+
+pub extended-spec : {M : Type 1} → statement M
+extended-spec =
+    tie.close
+    (tie.spec
+    enum-known-row
+    returns
+    returns-2
+    returns-3
+    add-t9
+    placed-at-requires
+    add-t11
+    mul-t12
+    add-t13
+    enum-told
+    returns-4
+    returns-5)

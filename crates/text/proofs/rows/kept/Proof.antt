@@ -1,0 +1,105 @@
+-- `rows::kept` judges a row against those before it, and stores it where it may stand.
+-- Assumes nothing.
+use borrow.Author.Needs.{needs}
+use native.Mathlib.Omega.{arith}
+use mathlib.Core.Path.{_≡_, subst}
+use Rattle.text.specs.memory.Rows.{RowsBounded}
+use Rattle.text.proofs.RowsKept.{rows-unfit, rows-unfit-row, rows-size, rows-order, rows-full, rows-more}
+use Rattle.text.proofs.rows.kept.Statement.{statement}
+use Rattle.text.proofs.rows.kept.Tie as tie
+
+enum-told : tie.Need-enum-told
+enum-told c = search needs
+
+enum-known-before : tie.Need-enum-known-before
+enum-known-before c = search needs
+
+enum-told-2 : tie.Need-enum-told-2
+enum-told-2 c = search needs
+
+enum-known-row : tie.Need-enum-known-row
+enum-known-row c = search needs
+
+returns : tie.Need-returns
+returns c =
+    let a = c .before .before .before .before .before .before .before .before .args in
+    rw (c .before .before .before .before .before .before2 .given .1, c .before .before .row .given .1)
+    (rows-size (a .total) (a .arity) (a .to) (a .rows .now) (a .rows .now) (c .before .before .before .before .before .before .before .before .pre .1) (c .before .before .before .before .before .before2 .given .0 .0) (c .before .before .before .before .before .before2 .given .0 .1 .0)
+    (c .before .before .row .given .0 .0) (c .before .before .row .given .0 .1 .0) (c .before .before .row .given .0 .1 .1 .0) (c .if1 .taken))
+
+returns-2 : tie.Need-returns-2
+returns-2 c =
+    let a = c .before .before .before .before .before .before .before .before .before .args in
+    rw (c .before .before .before .before .before .before .before2 .given .1, c .before .before .before .row .given .1)
+    (rows-order (a .total) (a .arity) (a .to) (a .rows .now) (a .rows .now) (c .before .before .before .before .before .before .before .before .before .pre .1) (c .before .before .before .before .before .before .before2 .given .0 .0) (c .before .before .before .before .before .before .before2 .given .0 .1 .0)
+    (c .before .before .before .row .given .0 .0) (c .before .before .before .row .given .0 .1 .0) (c .before .before .before .row .given .0 .1 .1 .0) (c .before .if1 .left) (c .if2 .taken))
+
+add-if3 : tie.Need-add-if3
+add-if3 c =
+    let b = subst RowsBounded (c .before .before .before .before .before .before .before2 .given .1) (c .before .before .before .before .before .before .before .before .before .pre .0) in
+    omega arith
+
+returns-3 : tie.Need-returns-3
+returns-3 c =
+    let a = c .before .before .before .before .before .before .before .before .before .before .args in
+    rw (c .before .before .before .before .before .before .before .before2 .given .1, c .before .before .before .before .row .given .1)
+    (rows-full (a .total) (a .arity) (a .to) (a .rows .now) (a .rows .now) (c .before .before .before .before .before .before .before .before .before .before .pre .1) (c .before .before .before .before .before .before .before .before2 .given .0 .0) (c .before .before .before .before .before .before .before .before2 .given .0 .1 .0)
+    (c .before .before .before .before .row .given .0 .0) (c .before .before .before .before .row .given .0 .1 .0) (c .before .before .before .before .row .given .0 .1 .1 .0) (c .before .before .if1 .left) (c .if3 .taken))
+
+cast-put : tie.Need-cast-put
+cast-put c = search needs
+
+add-put : tie.Need-add-put
+add-put c =
+    let b = subst RowsBounded (c .before .before .before .before .before .before .before .before .before2 .given .1) (c .before .before .before .before .before .before .before .before .before .before .before .pre .0) in
+    omega arith
+
+put-requires : tie.Need-put-requires
+put-requires c κs = search needs
+
+add-t15 : tie.Need-add-t15
+add-t15 c =
+    let b = subst RowsBounded (c .before .before .before .before .before .before .before .before .before .before .before .before2 .given .1) (c .before .before .before .before .before .before .before .before .before .before .before .before .before .before .pre .0) in
+    omega arith
+
+returns-4 : tie.Need-returns-4
+returns-4 c =
+    let a = c .before .before .before .args in
+    rw (c .enum-told .given .1) (rows-unfit (a .total) (a .arity) (a .to) (a .rows .now) (a .rows .now) (a .row))
+
+returns-5 : tie.Need-returns-5
+returns-5 c =
+    let a = c .before .before .before .before .before .before .args in
+    rw (c .before .before .before .before2 .given .1, c .enum-told2 .given .1)
+    (rows-unfit-row (a .total) (a .arity) (a .to) (a .rows .now) (a .rows .now) (c .before .before .before .before .before .before .pre .1) (c .before .before .before .before2 .given .0 .0) (c .before .before .before .before2 .given .0 .1 .0))
+
+same-length : tie.Need-same-length
+same-length c = search needs
+
+returns-6 : tie.Need-returns-6
+returns-6 c =
+    let a = c .before .before .before .before .before .before .before .before .before .before .before .before .before .before .args in
+    rw (c .before .before .before .before .before .before .before .before .before .before .before .before2 .given .1, c .before .before .before .before .before .before .before .before .row .given .1)
+    (rows-more (a .total) (a .arity) (a .to) (a .rows .now) (c .before .before .put .last .0) (c .before .before .before .before .before .before .before .before .before .before .before .before .before .before .pre .1) (c .before .before .before .before .before .before .before .before .before .before .before .before2 .given .0 .0) (c .before .before .before .before .before .before .before .before .before .before .before .before2 .given .0 .1 .0)
+    (c .before .before .before .before .before .before .before .before .row .given .0 .0) (c .before .before .before .before .before .before .before .before .row .given .0 .1 .0) (c .before .before .before .before .before .before .before .before .row .given .0 .1 .1 .0) (c .before .before .before .before .before .before .if1 .left) (c .before .before .before .before .before .if2 .left) (c .before .before .before .before .if3 .left) (c .before .before .put .ensures))
+
+pub kept-spec : {M : Type 1} → statement M
+kept-spec =
+    tie.close
+    (tie.spec
+    enum-told
+    enum-known-before
+    enum-told-2
+    enum-known-row
+    returns
+    returns-2
+    add-if3
+    returns-3
+    cast-put
+    add-put
+    put-requires
+    add-t15
+    returns-4
+    returns-5
+    same-length
+    returns-6)

@@ -1,0 +1,90 @@
+-- `rows::tuple_at` reads one element after another. The invariant: the elements so far, and what is kept of them.
+-- Assumes nothing.
+use borrow.Author.Needs.{needs}
+use native.Mathlib.Omega.{arith}
+use Prim.Native.Nat.{_-_}
+use mathlib.Core.Path.{_≡_, sym, subst, _∙_}
+use lib.ListN.{length}
+use Rattle.text.specs.memory.Rows.{ToldElement}
+use Rattle.text.proofs.FoundBytes.{byte-inside}
+use Rattle.text.proofs.RowPlaces.{TupleGoing, tuple-first, tuple-bounded, tuple-refused, tuple-last, tuple-on}
+use Rattle.text.proofs.rows.tuple_at.Statement.{statement}
+use Rattle.text.proofs.rows.tuple_at.Tie as tie
+
+abbrev Inv-loop : tie.InvT-loop
+Inv-loop text at domain row₀ i₀ row i = TupleGoing domain text at row i
+
+abbrev μ-loop : tie.MeasureT-loop
+μ-loop text at domain row₀ i₀ row i = length text - i
+
+loop-holds : tie.Need-loop-holds Inv-loop μ-loop
+loop-holds c =
+    let a = c .before .args in
+    tuple-first (a .domain) (a .text .now) (a .at) (c .before .pre .0)
+
+element-at-requires : tie.Need-element-at-requires Inv-loop μ-loop
+element-at-requires c κs =
+    let a = c .before .before .args in
+    let l = c .loop in
+    (omega (arith, l .inv .listing .within), c .before .before .pre .1, tuple-bounded (a .domain) (a .text .now) (a .at) (l .row) (l .i) (l .inv) (c .before .before .pre .1))
+
+enum-told : tie.Need-enum-told Inv-loop μ-loop
+enum-told c = search needs
+
+returns : tie.Need-returns Inv-loop μ-loop
+returns c =
+    let a = c .before .before .before .before .before .args in
+    let l = c .before .before .before .loop in
+    tuple-refused (a .domain) (a .text .now) (a .at) (l .row) (l .i) (l .inv)
+    (subst (ToldElement (a .domain) (l .row) (a .text .now) (l .i)) (c .enum-told .given .1) (c .before .before .element-at .ensures))
+
+enum-known-next : tie.Need-enum-known-next Inv-loop μ-loop
+enum-known-next c = search needs
+
+peek-requires : tie.Need-peek-requires Inv-loop μ-loop
+peek-requires c κs = search needs
+
+returns-2 : tie.Need-returns-2 Inv-loop μ-loop
+returns-2 c =
+    let a = c .before .before .before .before .before .before .before .before .args in
+    let l = c .before .before .before .before .before .before .loop in
+    tuple-last (a .domain) (a .text .now) (a .at) (l .row) (l .i) (l .inv) (c .before .before .before .next .given .0 .1 .0) (c .before .before .before .next .given .0 .0)
+    (subst (ToldElement (a .domain) (l .row) (a .text .now) (l .i)) (c .before .before .before .next .given .1) (c .before .before .before .before .before .element-at .ensures)) (λ e. c .if1 .taken (c .before .peek .ensures ∙ e))
+
+add-i : tie.Need-add-i Inv-loop μ-loop
+add-i c =
+    let a = c .before .before .before .before .before .before .before .before .args in
+    let h = byte-inside (a .text .now) (c .before .before .before .next .given .0 .0) 46 (omega arith) (sym (c .before .peek .ensures) ∙ c .if1 .left) in
+    omega arith
+
+loop-less : tie.Need-loop-less Inv-loop μ-loop
+loop-less c =
+    let a = c .before .before .before .before .before .before .before .before .args in
+    let l = c .before .before .before .before .before .before .loop in
+    let h = byte-inside (a .text .now) (c .before .before .before .next .given .0 .0) 46 (omega arith) (sym (c .before .peek .ensures) ∙ c .if1 .left) in
+    let f = subst (ToldElement (a .domain) (l .row) (a .text .now) (l .i)) (c .before .before .before .next .given .1) (c .before .before .before .before .before .element-at .ensures) in
+    omega (arith, f .later)
+
+loop-again : tie.Need-loop-again Inv-loop μ-loop
+loop-again c =
+    let a = c .before .before .before .before .before .before .before .before .args in
+    let l = c .before .before .before .before .before .before .loop in
+    tuple-on (a .domain) (a .text .now) (a .at) (l .row) (l .i) (l .inv) (c .before .before .before .next .given .0 .1 .0) (c .before .before .before .next .given .0 .0)
+    (subst (ToldElement (a .domain) (l .row) (a .text .now) (l .i)) (c .before .before .before .next .given .1) (c .before .before .before .before .before .element-at .ensures)) (sym (c .before .peek .ensures) ∙ c .if1 .left)
+
+pub tuple-at-spec : {M : Type 1} → statement M
+tuple-at-spec =
+    tie.close
+    (tie.spec
+    Inv-loop
+    μ-loop
+    loop-holds
+    element-at-requires
+    enum-told
+    returns
+    enum-known-next
+    peek-requires
+    returns-2
+    add-i
+    loop-less
+    loop-again)
