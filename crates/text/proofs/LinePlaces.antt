@@ -20,7 +20,7 @@ use Rattle.text.specs.Derivation.{readRanged, readFormulaName, readPath,
 use Rattle.text.specs.Derivation.{versionText, readVersion, readGrounder}
 use Rattle.text.specs.memory.Found.{Found, Taken, Refused, WordFound}
 use Rattle.text.specs.memory.Numbers.{beyond, numberAt, numberEnd, numbersAt, NumberFound, SmallFound, LargeFound, ToldNumber}
-use Rattle.text.specs.memory.RuleLines.{readFinalNames, ToldWord, EndFound, ToldEnd, RangedFound, NumbersFound, ToldNumbers, PositionFound, LastFound, Behind, ToldKind, ToldLine}
+use Rattle.text.specs.memory.RuleLines.{positionAt, readFinalNames, ToldWord, EndFound, ToldEnd, RangedFound, NumbersFound, ToldNumbers, PositionFound, Behind, ToldKind, ToldLine}
 use Rattle.text.specs.declared.number.Number.the-variants as number
 use Rattle.text.specs.declared.rule_line.Ended.{Ended}
 use Rattle.text.specs.declared.rule_line.Ended.the-variants as ended
@@ -185,22 +185,21 @@ module _ {text : Bytes} {at : ℕ} where
 
 -- Lines that end with their position.
 
-module _ {text : Bytes} {at : ℕ} where
-  pub last-refused : Refused 10 readPosition text at → (make : Position → RuleLine) → Refused 10 (atPosition make) text at
-  last-refused f make = refused-first _ f
+module _ {text : Bytes} {at : ℕ} (make : Position → RuleLine) where
+  pub last-refused : Refused 10 readPosition text at → Refused 10 (atPosition make) text at
+  last-refused f = refused-first _ f
 
   module _ {name path steps next : ℕ} (read : PositionFound text at name path steps next) where
-    pub last-open : begins (bytes "\n") (drop next text) ≡ false → (make : Position → RuleLine) → Refused 10 (atPosition make) text at
-    last-open e make = refused-then _ (read .found) (refused-first _ (refused-word text next 10 (bytes "\n") e))
+    pub last-open : begins (bytes "\n") (drop next text) ≡ false → Refused 10 (atPosition make) text at
+    last-open e = refused-then _ (read .found) (refused-first _ (refused-word text next 10 (bytes "\n") e))
 
-    pub last-found : {end : ℕ} → WordFound (bytes "\n") text next end → LastFound text at name path steps end
-    last-found closed =
-        record {
-          found = λ make.
-              found-taken (found-then _ (read .found) (found-then _ (found-word text next 10 (bytes "\n") closed) (found-give _ (closed .within))))
-              (omega (arith, read .found .after, closed .ends));
-          few = omega (arith, read .few, closed .ends);
-        }
+    pub last-found : {end : ℕ} → WordFound (bytes "\n") text next end
+        → Taken (atPosition make) text at (step (make (positionAt text name path steps))) end × (path + steps ≤ end)
+    last-found closed = (
+      found-taken (found-then _ (read .found) (found-then _ (found-word text next 10 (bytes "\n") closed) (found-give _ (closed .within))))
+          (omega (arith, read .found .after, closed .ends)),
+      omega (arith, read .few, closed .ends),
+    )
 
 -- A split.
 
@@ -299,10 +298,10 @@ kind-none text at e = e
 -- A line, by its kind and by what follows.
 
 module _ (text : Bytes) (at : ℕ) {tail : Reader Line} {mid : ℕ} (behind : Behind (readLine (drop at text)) tail text at mid) where
-  pub line-refused : Refused 10 tail text mid → Refused 10 readLine text at
+  line-refused : Refused 10 tail text mid → Refused 10 readLine text at
   line-refused f = record { is = behind .is ∙ f .is }
 
-  pub line-read : {l : Line} {next : ℕ} → Taken tail text mid l next → Taken readLine text at l next
+  line-read : {l : Line} {next : ℕ} → Taken tail text mid l next → Taken readLine text at l next
   line-read f = record { is = behind .is ∙ f .is; after = omega (arith, behind .after, f .after); within = f .within }
 
   pub line-told : (r : LineRead) → ToldLine tail text mid r → ToldLine readLine text at r

@@ -8,9 +8,9 @@ use crate::number::number_at;
 ghost use Prim.Native.Nat.{_≤_, _<_};
 ghost use lib.ListN.{length, drop};
 ghost use Rattle.text.specs.Reading.{refuse, oneOf, separated};
-ghost use Rattle.text.specs.Derivation.{readRanged, readPath, readSplit, readFooter, lineKinds, readLine, readVersion, readGrounder};
+ghost use Rattle.text.specs.Derivation.{readRanged, readPath, atPosition, readSplit, readFooter, lineKinds, readLine, readVersion, readGrounder};
 ghost use Rattle.text.specs.memory.Numbers.{beyond};
-ghost use Rattle.text.specs.memory.RuleLines.{readFinalNames, ToldWord, ToldEnd, ToldRanged, ToldNumbers, ToldPosition, ToldLast, ToldKind, ToldLine};
+ghost use Rattle.text.specs.memory.RuleLines.{makeOf, readFinalNames, ToldWord, ToldEnd, ToldRanged, ToldNumbers, ToldPosition, ToldKind, ToldLine};
 
 // The rules that change a formula, or a part of one.
 pub enum Rule {
@@ -65,40 +65,36 @@ pub enum Ended {
     Malformed,
 }
 
-// A number of a range.
+// A number of a range, and the place after it.
 enum RangedRead {
-    Value { number: u32, next: usize },
+    Value(u32, usize),
     Malformed,
 }
 
-// Numbers with commas between them.
+// Numbers with commas between them: the place of the first, how many there are, and the place after them.
 enum NumbersRead {
-    Numbers {
-        first: usize,
-        many: usize,
-        next: usize,
-    },
+    Numbers(usize, usize, usize),
     Malformed,
 }
 
-// A formula's name, and a path in it.
+// A formula's name, the place and the count of a path's numbers, and the place after the path.
 enum PositionRead {
-    Position {
-        name: u32,
-        path: usize,
-        steps: usize,
-        next: usize,
-    },
+    Position(u32, usize, usize, usize),
     Malformed,
+}
+
+// A rule line that ends with its position.
+enum AtPosition {
+    Rewrite(Rule),
+    Unsat,
+    Trivial,
 }
 
 // The kind of a line, and the place after the word that tells it.
 enum LineKind {
-    Rewrite { rule: Rule, next: usize },
-    Unsat { next: usize },
-    Trivial { next: usize },
-    Split { next: usize },
-    Footer { next: usize },
+    Position(AtPosition, usize),
+    Split(usize),
+    Footer(usize),
     Unknown,
 }
 
@@ -126,10 +122,7 @@ fn ranged_at(text: &[u8], at: usize, least: u32, greatest: u32) -> RangedRead
             if greatest < value {
                 return RangedRead::Malformed;
             }
-            RangedRead::Value {
-                number: value,
-                next,
-            }
+            RangedRead::Value(value, next)
         }
         Number::Beyond { next: _ } => RangedRead::Malformed,
         Number::Malformed => RangedRead::Malformed,
@@ -145,14 +138,10 @@ fn numbers_at(text: &[u8], at: usize, least: u32, greatest: u32) -> NumbersRead
     let mut many: usize = 0;
     loop {
         match ranged_at(text, i, least, greatest) {
-            RangedRead::Value { number: _, next } => {
+            RangedRead::Value(_, next) => {
                 many += 1;
                 if peek(text, next) != b',' {
-                    return NumbersRead::Numbers {
-                        first: at,
-                        many,
-                        next,
-                    };
+                    return NumbersRead::Numbers(at, many, next);
                 }
                 i = next + 1;
             }
@@ -169,70 +158,61 @@ fn path_at(text: &[u8], at: usize) -> NumbersRead
     ensures { λ r. ⌜ ToldNumbers readPath (now (text .entry)) at r ⌝ }
 {
     let Ended::At(start) = word_end(text, at, b"[") else {
-        return NumbersRead::Numbers {
-            first: at,
-            many: 0,
-            next: at,
-        };
+        return NumbersRead::Numbers(at, 0, at);
     };
-    let NumbersRead::Numbers { first, many, next } = numbers_at(text, start, 0, 4095) else {
+    let NumbersRead::Numbers(first, many, next) = numbers_at(text, start, 0, 4095) else {
         return NumbersRead::Malformed;
     };
     let Ended::At(end) = word_end(text, next, b"]") else {
         return NumbersRead::Malformed;
     };
-    NumbersRead::Numbers {
-        first,
-        many,
-        next: end,
-    }
+    NumbersRead::Numbers(first, many, end)
 }
 
 fn position_at(text: &[u8], at: usize) -> PositionRead
     requires { ⌜ at ≤ length (now text) ⌝ }
     ensures { λ r. ⌜ ToldPosition (now (text .entry)) at r ⌝ }
 {
-    let RangedRead::Value { number, next } = ranged_at(text, at, 1, 65535) else {
+    let RangedRead::Value(name, next) = ranged_at(text, at, 1, 65535) else {
         return PositionRead::Malformed;
     };
-    let NumbersRead::Numbers {
-        first,
-        many,
-        next: end,
-    } = path_at(text, next)
-    else {
+    let NumbersRead::Numbers(path, steps, end) = path_at(text, next) else {
         return PositionRead::Malformed;
     };
-    PositionRead::Position {
-        name: number,
-        path: first,
-        steps: many,
-        next: end,
-    }
+    PositionRead::Position(name, path, steps, end)
 }
 
-// A position that ends its line.
-fn last_position_at(text: &[u8], at: usize) -> PositionRead
+// What follows the word of a line that ends with its position.
+fn position_line_at(text: &[u8], at: usize, kind: AtPosition) -> LineRead
     requires { ⌜ at ≤ length (now text) ⌝ }
-    ensures { λ r. ⌜ ToldLast (now (text .entry)) at r ⌝ }
+    ensures { λ r. ⌜ ToldLine (atPosition (makeOf kind)) (now (text .entry)) at r ⌝ }
 {
-    let PositionRead::Position {
-        name,
-        path,
-        steps,
-        next,
-    } = position_at(text, at)
-    else {
-        return PositionRead::Malformed;
+    let PositionRead::Position(name, path, steps, last) = position_at(text, at) else {
+        return LineRead::Malformed;
     };
-    let Ended::At(end) = word_end(text, next, b"\n") else {
-        return PositionRead::Malformed;
+    let Ended::At(next) = word_end(text, last, b"\n") else {
+        return LineRead::Malformed;
     };
-    PositionRead::Position {
-        name,
-        path,
-        steps,
-        next: end,
+    match kind {
+        AtPosition::Rewrite(rule) => LineRead::Rewrite {
+            rule,
+            name,
+            path,
+            steps,
+            next,
+        },
+        AtPosition::Unsat => LineRead::Unsat {
+            name,
+            path,
+            steps,
+            next,
+        },
+        AtPosition::Trivial => LineRead::Trivial {
+            name,
+            path,
+            steps,
+            next,
+        },
     }
 }
 
@@ -241,24 +221,13 @@ fn split_at(text: &[u8], at: usize) -> LineRead
     requires { ⌜ at ≤ length (now text) ⌝ }
     ensures { λ r. ⌜ ToldLine readSplit (now (text .entry)) at r ⌝ }
 {
-    let PositionRead::Position {
-        name,
-        path,
-        steps,
-        next,
-    } = position_at(text, at)
-    else {
+    let PositionRead::Position(name, path, steps, next) = position_at(text, at) else {
         return LineRead::Malformed;
     };
     let Ended::At(start) = word_end(text, next, b" -> ") else {
         return LineRead::Malformed;
     };
-    let NumbersRead::Numbers {
-        first,
-        many,
-        next: last,
-    } = numbers_at(text, start, 1, 65535)
-    else {
+    let NumbersRead::Numbers(names, many, last) = numbers_at(text, start, 1, 65535) else {
         return LineRead::Malformed;
     };
     let Ended::At(end) = word_end(text, last, b"\n") else {
@@ -268,7 +237,7 @@ fn split_at(text: &[u8], at: usize) -> LineRead
         name,
         path,
         steps,
-        names: first,
+        names,
         many,
         next: end,
     }
@@ -280,11 +249,7 @@ fn final_names_at(text: &[u8], at: usize) -> NumbersRead
     ensures { λ r. ⌜ ToldNumbers readFinalNames (now (text .entry)) at r ⌝ }
 {
     if let Ended::At(next) = word_end(text, at, b"-") {
-        return NumbersRead::Numbers {
-            first: next,
-            many: 0,
-            next,
-        };
+        return NumbersRead::Numbers(next, 0, next);
     }
     numbers_at(text, at, 1, 65535)
 }
@@ -294,14 +259,14 @@ fn footer_at(text: &[u8], at: usize) -> LineRead
     requires { ⌜ at ≤ length (now text) ⌝ }
     ensures { λ r. ⌜ ToldLine readFooter (now (text .entry)) at r ⌝ }
 {
-    let NumbersRead::Numbers { first, many, next } = final_names_at(text, at) else {
+    let NumbersRead::Numbers(names, many, next) = final_names_at(text, at) else {
         return LineRead::Malformed;
     };
     let Ended::At(end) = word_end(text, next, b"\n") else {
         return LineRead::Malformed;
     };
     LineRead::Footer {
-        names: first,
+        names,
         many,
         next: end,
     }
@@ -313,16 +278,16 @@ fn other_kind_at(text: &[u8], at: usize) -> LineKind
     ensures { λ r. ⌜ ToldKind (oneOf (drop 6 lineKinds) (refuse 10) (drop at (now (text .entry)))) (now (text .entry)) at r ⌝ }
 {
     if begins_at(text, at, b"UNSAT @ ") {
-        return LineKind::Unsat { next: at + 8 };
+        return LineKind::Position(AtPosition::Unsat, at + 8);
     }
     if begins_at(text, at, b"TRIVIAL - ") {
-        return LineKind::Trivial { next: at + 10 };
+        return LineKind::Position(AtPosition::Trivial, at + 10);
     }
     if begins_at(text, at, b"SPLITC ") {
-        return LineKind::Split { next: at + 7 };
+        return LineKind::Split(at + 7);
     }
     if begins_at(text, at, b"FINAL IDS : ") {
-        return LineKind::Footer { next: at + 12 };
+        return LineKind::Footer(at + 12);
     }
     LineKind::Unknown
 }
@@ -333,40 +298,22 @@ fn kind_at(text: &[u8], at: usize) -> LineKind
     ensures { λ r. ⌜ ToldKind (readLine (drop at (now (text .entry)))) (now (text .entry)) at r ⌝ }
 {
     if begins_at(text, at, b"SNAND @ ") {
-        return LineKind::Rewrite {
-            rule: Rule::Snand,
-            next: at + 8,
-        };
+        return LineKind::Position(AtPosition::Rewrite(Rule::Snand), at + 8);
     }
     if begins_at(text, at, b"SNOR @ ") {
-        return LineKind::Rewrite {
-            rule: Rule::Snor,
-            next: at + 7,
-        };
+        return LineKind::Position(AtPosition::Rewrite(Rule::Snor), at + 7);
     }
     if begins_at(text, at, b"STN @ ") {
-        return LineKind::Rewrite {
-            rule: Rule::Stn,
-            next: at + 6,
-        };
+        return LineKind::Position(AtPosition::Rewrite(Rule::Stn), at + 6);
     }
     if begins_at(text, at, b"EPRED @ ") {
-        return LineKind::Rewrite {
-            rule: Rule::Epred,
-            next: at + 8,
-        };
+        return LineKind::Position(AtPosition::Rewrite(Rule::Epred), at + 8);
     }
     if begins_at(text, at, b"EPROP @ ") {
-        return LineKind::Rewrite {
-            rule: Rule::Eprop,
-            next: at + 8,
-        };
+        return LineKind::Position(AtPosition::Rewrite(Rule::Eprop), at + 8);
     }
     if begins_at(text, at, b"IQ @ ") {
-        return LineKind::Rewrite {
-            rule: Rule::Iq,
-            next: at + 5,
-        };
+        return LineKind::Position(AtPosition::Rewrite(Rule::Iq), at + 5);
     }
     other_kind_at(text, at)
 }
@@ -377,51 +324,9 @@ pub fn line_at(text: &[u8], at: usize) -> LineRead
     ensures { λ r. ⌜ ToldLine readLine (now (text .entry)) at r ⌝ }
 {
     match kind_at(text, at) {
-        LineKind::Rewrite { rule, next } => match last_position_at(text, next) {
-            PositionRead::Position {
-                name,
-                path,
-                steps,
-                next,
-            } => LineRead::Rewrite {
-                rule,
-                name,
-                path,
-                steps,
-                next,
-            },
-            PositionRead::Malformed => LineRead::Malformed,
-        },
-        LineKind::Unsat { next } => match last_position_at(text, next) {
-            PositionRead::Position {
-                name,
-                path,
-                steps,
-                next,
-            } => LineRead::Unsat {
-                name,
-                path,
-                steps,
-                next,
-            },
-            PositionRead::Malformed => LineRead::Malformed,
-        },
-        LineKind::Trivial { next } => match last_position_at(text, next) {
-            PositionRead::Position {
-                name,
-                path,
-                steps,
-                next,
-            } => LineRead::Trivial {
-                name,
-                path,
-                steps,
-                next,
-            },
-            PositionRead::Malformed => LineRead::Malformed,
-        },
-        LineKind::Split { next } => split_at(text, next),
-        LineKind::Footer { next } => footer_at(text, next),
+        LineKind::Position(kind, next) => position_line_at(text, next, kind),
+        LineKind::Split(next) => split_at(text, next),
+        LineKind::Footer(next) => footer_at(text, next),
         LineKind::Unknown => LineRead::Malformed,
     }
 }

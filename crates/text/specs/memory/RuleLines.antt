@@ -21,6 +21,8 @@ use Rattle.text.specs.declared.rule_line.NumbersRead.{NumbersRead}
 use Rattle.text.specs.declared.rule_line.NumbersRead.the-variants as numbers
 use Rattle.text.specs.declared.rule_line.PositionRead.{PositionRead}
 use Rattle.text.specs.declared.rule_line.PositionRead.the-variants as position
+use Rattle.text.specs.declared.rule_line.AtPosition.{AtPosition}
+use Rattle.text.specs.declared.rule_line.AtPosition.the-variants as made
 use Rattle.text.specs.declared.rule_line.LineKind.{LineKind}
 use Rattle.text.specs.declared.rule_line.LineKind.the-variants as kind
 use Rattle.text.specs.declared.rule_line.LineRead.{LineRead}
@@ -33,6 +35,12 @@ ruleOf Stn = STN
 ruleOf Epred = EPRED
 ruleOf Eprop = EPROP
 ruleOf Iq = IQ
+
+-- the line that is made of its position
+abbrev pub makeOf : AtPosition → Position → RuleLine
+makeOf (made.Rewrite rule) = rewrite (ruleOf rule)
+makeOf made.Unsat = unsat
+makeOf made.Trivial = trivial
 
 abbrev pub positionAt : Bytes → ℕ → ℕ → ℕ → Position
 positionAt text name path steps = record { name = name; path = numbersAt text path steps }
@@ -84,15 +92,6 @@ abbrev pub ToldPosition : Bytes → ℕ → PositionRead → Type 0
 ToldPosition text at (position.Position name path steps next) = PositionFound text at name path steps next
 ToldPosition text at position.Malformed = Refused 10 readPosition text at
 
--- a position is read that ends its line, whatever line is made of it
-pub record LastFound (text : Bytes) (at name path steps next : ℕ) : Type 0 where
-  pub found : (make : Position → RuleLine) → Taken (atPosition make) text at (step (make (positionAt text name path steps))) next
-  pub few : path + steps ≤ next
-
-abbrev pub ToldLast : Bytes → ℕ → PositionRead → Type 0
-ToldLast text at (position.Position name path steps next) = LastFound text at name path steps next
-ToldLast text at position.Malformed = (make : Position → RuleLine) → Refused 10 (atPosition make) text at
-
 abbrev pub ToldLine : Reader Line → Bytes → ℕ → LineRead → Type 0
 ToldLine reader text at (line.Rewrite rule name path steps next) =
     Taken reader text at (step (rewrite (ruleOf rule) (positionAt text name path steps))) next × (path + steps ≤ next)
@@ -114,9 +113,7 @@ pub record Behind (outcome : Outcome ℕ (Line × Bytes)) (reader : Reader Line)
 
 -- the kind of a line is told by its word, and what follows is read as that kind
 abbrev pub ToldKind : Outcome ℕ (Line × Bytes) → Bytes → ℕ → LineKind → Type 0
-ToldKind outcome text at (kind.Rewrite rule next) = Behind outcome (atPosition (rewrite (ruleOf rule))) text at next
-ToldKind outcome text at (kind.Unsat next) = Behind outcome (atPosition unsat) text at next
-ToldKind outcome text at (kind.Trivial next) = Behind outcome (atPosition trivial) text at next
+ToldKind outcome text at (kind.Position make next) = Behind outcome (atPosition (makeOf make)) text at next
 ToldKind outcome text at (kind.Split next) = Behind outcome readSplit text at next
 ToldKind outcome text at (kind.Footer next) = Behind outcome readFooter text at next
 ToldKind outcome text at kind.Unknown = outcome ≡ refused 10

@@ -8,16 +8,16 @@ use Rattle.text.proofs.LinePlaces.{footer-refused, footer-open, footer-
 use Rattle.text.proofs.rule_line.footer_at.Statement.{statement}
 use Rattle.text.proofs.rule_line.footer_at.Tie as tie
 
-names : (c : tie.After-first) → let a = c .before .before .before .before .args in NumbersFound readFinalNames (a .text .now) (a .at) (c .first .given .0 .0) (c .first .given .0 .1 .0) (c .first .given .0 .1 .1 .0)
-names c =
+listed : (c : tie.After-names) → let a = c .before .before .before .before .args in NumbersFound readFinalNames (a .text .now) (a .at) (c .names .given .0 .0) (c .names .given .0 .1 .0) (c .names .given .0 .1 .1 .0)
+listed c =
     let a = c .before .before .before .before .args in
-    subst (ToldNumbers readFinalNames (a .text .now) (a .at)) (c .first .given .1) (c .before .before .final-names-at .ensures)
+    subst (ToldNumbers readFinalNames (a .text .now) (a .at)) (c .names .given .1) (c .before .before .final-names-at .ensures)
 
 final-names-at-requires : tie.Need-final-names-at-requires
 final-names-at-requires c κs = search needs
 
-enum-known-first : tie.Need-enum-known-first
-enum-known-first c = search needs
+enum-known-names : tie.Need-enum-known-names
+enum-known-names c = search needs
 
 enum-told : tie.Need-enum-told
 enum-told c = search needs
@@ -31,7 +31,7 @@ slice-aggregate-word-end : tie.Need-slice-aggregate-word-end
 slice-aggregate-word-end c = search needs
 
 word-end-requires : tie.Need-word-end-requires
-word-end-requires c κs = names (c .before .before) .found .within
+word-end-requires c κs = listed (c .before .before) .found .within
 
 enum-known-end : tie.Need-enum-known-end
 enum-known-end c = search needs
@@ -42,19 +42,19 @@ enum-told-2 c = search needs
 returns-2 : tie.Need-returns-2
 returns-2 c =
     let a = c .before .before .before .before .before .before .before .before .before .args in
-    footer-open (names (c .before .before .before .before .before)) (subst (ToldWord (bytes "\n") (a .text .now) (c .before .before .before .before .before .first .given .0 .1 .1 .0)) (c .enum-told2 .given .1) (c .before .before .word-end .ensures))
+    footer-open (listed (c .before .before .before .before .before)) (subst (ToldWord (bytes "\n") (a .text .now) (c .before .before .before .before .before .names .given .0 .1 .1 .0)) (c .enum-told2 .given .1) (c .before .before .word-end .ensures))
 
 returns-3 : tie.Need-returns-3
 returns-3 c =
     let a = c .before .before .before .before .before .before .before .before .before .before .args in
-    footer-found (names (c .before .before .before .before .before .before)) (subst (ToldWord (bytes "\n") (a .text .now) (c .before .before .before .before .before .before .first .given .0 .1 .1 .0)) (c .before .end .given .1) (c .before .before .before .word-end .ensures))
+    footer-found (listed (c .before .before .before .before .before .before)) (subst (ToldWord (bytes "\n") (a .text .now) (c .before .before .before .before .before .before .names .given .0 .1 .1 .0)) (c .before .end .given .1) (c .before .before .before .word-end .ensures))
 
 pub footer-at-spec : {M : Type 1} → statement M
 footer-at-spec =
     tie.close
     (tie.spec
     final-names-at-requires
-    enum-known-first
+    enum-known-names
     enum-told
     returns
     slice-aggregate-word-end

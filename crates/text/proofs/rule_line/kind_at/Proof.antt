@@ -53,8 +53,8 @@ slice-aggregate-begins-at c = search needs
 begins-at-requires : tie.Need-begins-at-requires
 begins-at-requires c κs = search needs
 
-add-t13 : tie.Need-add-t13
-add-t13 c = search needs
+add-t14 : tie.Need-add-t14
+add-t14 c = search needs
 
 returns : tie.Need-returns
 unfolding readLine lineKinds
@@ -68,8 +68,8 @@ slice-aggregate-begins-at-2 c = search needs
 begins-at-requires-2 : tie.Need-begins-at-requires-2
 begins-at-requires-2 c κs = search needs
 
-add-t18 : tie.Need-add-t18
-add-t18 c = search needs
+add-t20 : tie.Need-add-t20
+add-t20 c = search needs
 
 returns-2 : tie.Need-returns-2
 unfolding readLine lineKinds
@@ -83,8 +83,8 @@ slice-aggregate-begins-at-3 c = search needs
 begins-at-requires-3 : tie.Need-begins-at-requires-3
 begins-at-requires-3 c κs = search needs
 
-add-t23 : tie.Need-add-t23
-add-t23 c = search needs
+add-t26 : tie.Need-add-t26
+add-t26 c = search needs
 
 returns-3 : tie.Need-returns-3
 unfolding readLine lineKinds
@@ -98,8 +98,8 @@ slice-aggregate-begins-at-4 c = search needs
 begins-at-requires-4 : tie.Need-begins-at-requires-4
 begins-at-requires-4 c κs = search needs
 
-add-t28 : tie.Need-add-t28
-add-t28 c = search needs
+add-t32 : tie.Need-add-t32
+add-t32 c = search needs
 
 returns-4 : tie.Need-returns-4
 unfolding readLine lineKinds
@@ -113,8 +113,8 @@ slice-aggregate-begins-at-5 c = search needs
 begins-at-requires-5 : tie.Need-begins-at-requires-5
 begins-at-requires-5 c κs = search needs
 
-add-t33 : tie.Need-add-t33
-add-t33 c = search needs
+add-t38 : tie.Need-add-t38
+add-t38 c = search needs
 
 returns-5 : tie.Need-returns-5
 unfolding readLine lineKinds
@@ -128,8 +128,8 @@ slice-aggregate-begins-at-6 c = search needs
 begins-at-requires-6 : tie.Need-begins-at-requires-6
 begins-at-requires-6 c κs = search needs
 
-add-t38 : tie.Need-add-t38
-add-t38 c = search needs
+add-t44 : tie.Need-add-t44
+add-t44 c = search needs
 
 returns-6 : tie.Need-returns-6
 unfolding readLine lineKinds
@@ -149,27 +149,27 @@ kind-at-spec =
     (tie.spec
     slice-aggregate-begins-at
     begins-at-requires
-    add-t13
+    add-t14
     returns
     slice-aggregate-begins-at-2
     begins-at-requires-2
-    add-t18
+    add-t20
     returns-2
     slice-aggregate-begins-at-3
     begins-at-requires-3
-    add-t23
+    add-t26
     returns-3
     slice-aggregate-begins-at-4
     begins-at-requires-4
-    add-t28
+    add-t32
     returns-4
     slice-aggregate-begins-at-5
     begins-at-requires-5
-    add-t33
+    add-t38
     returns-5
     slice-aggregate-begins-at-6
     begins-at-requires-6
-    add-t38
+    add-t44
     returns-6
     other-kind-at-requires
     returns-7)

@@ -41,8 +41,8 @@ slice-aggregate-begins-at c = search needs
 begins-at-requires : tie.Need-begins-at-requires
 begins-at-requires c κs = search needs
 
-add-t10 : tie.Need-add-t10
-add-t10 c = search needs
+add-t11 : tie.Need-add-t11
+add-t11 c = search needs
 
 returns : tie.Need-returns
 unfolding lineKinds
@@ -56,8 +56,8 @@ slice-aggregate-begins-at-2 c = search needs
 begins-at-requires-2 : tie.Need-begins-at-requires-2
 begins-at-requires-2 c κs = search needs
 
-add-t14 : tie.Need-add-t14
-add-t14 c = search needs
+add-t16 : tie.Need-add-t16
+add-t16 c = search needs
 
 returns-2 : tie.Need-returns-2
 unfolding lineKinds
@@ -71,8 +71,8 @@ slice-aggregate-begins-at-3 c = search needs
 begins-at-requires-3 : tie.Need-begins-at-requires-3
 begins-at-requires-3 c κs = search needs
 
-add-t18 : tie.Need-add-t18
-add-t18 c = search needs
+add-t20 : tie.Need-add-t20
+add-t20 c = search needs
 
 returns-3 : tie.Need-returns-3
 unfolding lineKinds
@@ -86,8 +86,8 @@ slice-aggregate-begins-at-4 c = search needs
 begins-at-requires-4 : tie.Need-begins-at-requires-4
 begins-at-requires-4 c κs = search needs
 
-add-t22 : tie.Need-add-t22
-add-t22 c = search needs
+add-t24 : tie.Need-add-t24
+add-t24 c = search needs
 
 returns-4 : tie.Need-returns-4
 unfolding lineKinds
@@ -107,18 +107,18 @@ other-kind-at-spec =
     (tie.spec
     slice-aggregate-begins-at
     begins-at-requires
-    add-t10
+    add-t11
     returns
     slice-aggregate-begins-at-2
     begins-at-requires-2
-    add-t14
+    add-t16
     returns-2
     slice-aggregate-begins-at-3
     begins-at-requires-3
-    add-t18
+    add-t20
     returns-3
     slice-aggregate-begins-at-4
     begins-at-requires-4
-    add-t22
+    add-t24
     returns-4
     returns-5)

@@ -8,16 +8,16 @@ use Rattle.text.proofs.LinePlaces.{position-unnamed, position-refused, 
 use Rattle.text.proofs.rule_line.position_at.Statement.{statement}
 use Rattle.text.proofs.rule_line.position_at.Tie as tie
 
-name : (c : tie.After-number) → let a = c .before .before .before .before .args in RangedFound 1 65535 (a .text .now) (a .at) (c .number .given .0 .0) (c .number .given .0 .1 .0)
-name c =
+named : (c : tie.After-name) → let a = c .before .before .before .before .args in RangedFound 1 65535 (a .text .now) (a .at) (c .name .given .0 .0) (c .name .given .0 .1 .0)
+named c =
     let a = c .before .before .before .before .args in
-    subst (ToldRanged 1 65535 (a .text .now) (a .at)) (c .number .given .1) (c .before .before .ranged-at .ensures)
+    subst (ToldRanged 1 65535 (a .text .now) (a .at)) (c .name .given .1) (c .before .before .ranged-at .ensures)
 
 ranged-at-requires : tie.Need-ranged-at-requires
 ranged-at-requires c κs = search needs
 
-enum-known-number : tie.Need-enum-known-number
-enum-known-number c = search needs
+enum-known-name : tie.Need-enum-known-name
+enum-known-name c = search needs
 
 enum-told : tie.Need-enum-told
 enum-told c = search needs
@@ -28,10 +28,10 @@ returns c =
     position-unnamed (subst (ToldRanged 1 65535 (a .text .now) (a .at)) (c .enum-told .given .1) (c .before .before .ranged-at .ensures))
 
 path-at-requires : tie.Need-path-at-requires
-path-at-requires c κs = name (c .before) .found .within
+path-at-requires c κs = named (c .before) .found .within
 
-enum-known-first : tie.Need-enum-known-first
-enum-known-first c = search needs
+enum-known-path : tie.Need-enum-known-path
+enum-known-path c = search needs
 
 enum-told-2 : tie.Need-enum-told-2
 enum-told-2 c = search needs
@@ -39,23 +39,23 @@ enum-told-2 c = search needs
 returns-2 : tie.Need-returns-2
 returns-2 c =
     let a = c .before .before .before .before .before .before .before .before .args in
-    position-refused (name (c .before .before .before .before)) (subst (ToldNumbers readPath (a .text .now) (c .before .before .before .before .number .given .0 .1 .0)) (c .enum-told2 .given .1) (c .before .before .path-at .ensures))
+    position-refused (named (c .before .before .before .before)) (subst (ToldNumbers readPath (a .text .now) (c .before .before .before .before .name .given .0 .1 .0)) (c .enum-told2 .given .1) (c .before .before .path-at .ensures))
 
 returns-3 : tie.Need-returns-3
 returns-3 c =
     let a = c .before .before .before .before .before .before .before .before .before .args in
-    position-found (name (c .before .before .before .before .before)) (subst (ToldNumbers readPath (a .text .now) (c .before .before .before .before .before .number .given .0 .1 .0)) (c .before .first .given .1) (c .before .before .before .path-at .ensures))
+    position-found (named (c .before .before .before .before .before)) (subst (ToldNumbers readPath (a .text .now) (c .before .before .before .before .before .name .given .0 .1 .0)) (c .before .path .given .1) (c .before .before .before .path-at .ensures))
 
 pub position-at-spec : {M : Type 1} → statement M
 position-at-spec =
     tie.close
     (tie.spec
     ranged-at-requires
-    enum-known-number
+    enum-known-name
     enum-told
     returns
     path-at-requires
-    enum-known-first
+    enum-known-path
     enum-told-2
     returns-2
     returns-3)

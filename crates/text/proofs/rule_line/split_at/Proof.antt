@@ -22,10 +22,10 @@ arrow c =
     let a = c .before .before .before .before .before .before .before .before .before .args in
     subst (ToldWord (bytes " -> ") (a .text .now) (c .before .before .before .before .before .name .given .0 .1 .1 .1 .0)) (c .start .given .1) (c .before .before .word-end .ensures)
 
-names : (c : tie.After-first) → let a = c .before .before .before .before .before .before .before .before .before .before .before .before .before .args in NumbersFound (separated 44 (readRanged 1 65535)) (a .text .now) (c .before .before .before .before .start .given .0 .0) (c .first .given .0 .0) (c .first .given .0 .1 .0) (c .first .given .0 .1 .1 .0)
-names c =
+listed : (c : tie.After-names) → let a = c .before .before .before .before .before .before .before .before .before .before .before .before .before .args in NumbersFound (separated 44 (readRanged 1 65535)) (a .text .now) (c .before .before .before .before .start .given .0 .0) (c .names .given .0 .0) (c .names .given .0 .1 .0) (c .names .given .0 .1 .1 .0)
+listed c =
     let a = c .before .before .before .before .before .before .before .before .before .before .before .before .before .args in
-    subst (ToldNumbers (separated 44 (readRanged 1 65535)) (a .text .now) (c .before .before .before .before .start .given .0 .0)) (c .first .given .1) (c .before .before .numbers-at .ensures)
+    subst (ToldNumbers (separated 44 (readRanged 1 65535)) (a .text .now) (c .before .before .before .before .start .given .0 .0)) (c .names .given .1) (c .before .before .numbers-at .ensures)
 
 position-at-requires : tie.Need-position-at-requires
 position-at-requires c κs = search needs
@@ -61,8 +61,8 @@ returns-2 c =
 numbers-at-requires : tie.Need-numbers-at-requires
 numbers-at-requires c κs = (arrow (c .before) .within, omega arith)
 
-enum-known-first : tie.Need-enum-known-first
-enum-known-first c = search needs
+enum-known-names : tie.Need-enum-known-names
+enum-known-names c = search needs
 
 enum-told-3 : tie.Need-enum-told-3
 enum-told-3 c = search needs
@@ -76,7 +76,7 @@ slice-aggregate-word-end-2 : tie.Need-slice-aggregate-word-end-2
 slice-aggregate-word-end-2 c = search needs
 
 word-end-requires-2 : tie.Need-word-end-requires-2
-word-end-requires-2 c κs = names (c .before .before) .found .within
+word-end-requires-2 c κs = listed (c .before .before) .found .within
 
 enum-known-end : tie.Need-enum-known-end
 enum-known-end c = search needs
@@ -87,12 +87,12 @@ enum-told-4 c = search needs
 returns-4 : tie.Need-returns-4
 returns-4 c =
     let a = c .before .before .before .before .before .before .before .before .before .before .before .before .before .before .before .before .before .before .args in
-    split-open (position (c .before .before .before .before .before .before .before .before .before .before .before .before .before .before)) (arrow (c .before .before .before .before .before .before .before .before .before)) (names (c .before .before .before .before .before)) (subst (ToldWord (bytes "\n") (a .text .now) (c .before .before .before .before .before .first .given .0 .1 .1 .0)) (c .enum-told4 .given .1) (c .before .before .word-end2 .ensures))
+    split-open (position (c .before .before .before .before .before .before .before .before .before .before .before .before .before .before)) (arrow (c .before .before .before .before .before .before .before .before .before)) (listed (c .before .before .before .before .before)) (subst (ToldWord (bytes "\n") (a .text .now) (c .before .before .before .before .before .names .given .0 .1 .1 .0)) (c .enum-told4 .given .1) (c .before .before .word-end2 .ensures))
 
 returns-5 : tie.Need-returns-5
 returns-5 c =
     let a = c .before .before .before .before .before .before .before .before .before .before .before .before .before .before .before .before .before .before .before .args in
-    split-found (position (c .before .before .before .before .before .before .before .before .before .before .before .before .before .before .before)) (arrow (c .before .before .before .before .before .before .before .before .before .before)) (names (c .before .before .before .before .before .before)) (subst (ToldWord (bytes "\n") (a .text .now) (c .before .before .before .before .before .before .first .given .0 .1 .1 .0)) (c .before .end .given .1) (c .before .before .before .word-end2 .ensures))
+    split-found (position (c .before .before .before .before .before .before .before .before .before .before .before .before .before .before .before)) (arrow (c .before .before .before .before .before .before .before .before .before .before)) (listed (c .before .before .before .before .before .before)) (subst (ToldWord (bytes "\n") (a .text .now) (c .before .before .before .before .before .before .names .given .0 .1 .1 .0)) (c .before .end .given .1) (c .before .before .before .word-end2 .ensures))
 
 pub split-at-spec : {M : Type 1} → statement M
 split-at-spec =
@@ -108,7 +108,7 @@ split-at-spec =
     enum-told-2
     returns-2
     numbers-at-requires
-    enum-known-first
+    enum-known-names
     enum-told-3
     returns-3
     slice-aggregate-word-end-2
