@@ -1,11 +1,11 @@
 -- Derivation lines at a place of a text: a law for each way in which a part of a line is read or refused, from what its parts tell.
 -- Assumes nothing.
-use Prim.Native.Nat.{ℕ, suc, zero, _+_, _-_, _≤_, _<_}
+use Prim.Native.Nat.{ℕ, suc, _+_, _-_, _≤_, _<_}
 use native.Mathlib.Omega.{arith}
-use native.Mathlib.Nat.{add-assoc, zero-add}
-use mathlib.Core.Path.{_≡_, refl, sym, ap, _∙_}
+use native.Mathlib.Nat.{zero-add}
+use mathlib.Core.Path.{_≡_, refl, sym, _∙_}
 use mathlib.Core.List.{List, [], _∷_, _++_, append-assoc}
-use mathlib.Core.Bool.{Bool, true, false, not, _&&_, and-false}
+use mathlib.Core.Bool.{true, false, and-false}
 use lib.Dec.{leb}
 use borrow.Author.Tests.{le-leb, lt-leb}
 use lib.ListN.{length, drop}
@@ -13,27 +13,26 @@ use lib.Seq.{drop-drop}
 use Rattle.text.specs.Sizes.{greatestName, greatestPathNumber, grounderSize}
 use Rattle.text.specs.Bytes as bytes
 use Rattle.text.specs.Bytes.{Bytes, bytes, begins, isPrintable, span}
-use Rattle.text.specs.Outcome.{Outcome, done, refused}
-use Rattle.text.specs.Reading.{Reader, refuse, give, word, token, _⇒_, oneOf, readNumber, separated}
-use Rattle.text.specs.Derivation.{Position, RuleLine, rewrite, unsat, trivial, splitc, Line, step, footer, inBounds, isGrounder}
-use Rattle.text.specs.Derivation.{readRanged, readFormulaName, readPath, readPosition, atPosition, readSplit, readFooter, lineKinds, readLine}
+use Rattle.text.specs.Outcome.{Outcome}
+use Rattle.text.specs.Reading.{Reader, refuse, give, token, _⇒_, oneOf, readNumber, separated}
+use Rattle.text.specs.Derivation.{Position, RuleLine, Line, step, inBounds, lineFits, isGrounder}
+use Rattle.text.specs.Derivation.{readRanged, readFormulaName, readPath, readPosition, atPosition, readSplit, readFooter, readLine}
 use Rattle.text.specs.Derivation.{versionText, readVersion, readGrounder}
 use Rattle.text.specs.memory.Found.{Found, Taken, Refused, WordFound}
-use Rattle.text.specs.memory.Numbers.{beyond, numberAt, numberEnd, numbersAt, NumberFound, SmallFound, LargeFound, ToldNumber}
-use Rattle.text.specs.memory.RuleLines.{positionAt, readFinalNames, ToldWord, EndFound, ToldEnd, RangedFound, NumbersFound, ToldNumbers, PositionFound, Behind, ToldKind, ToldLine}
+use Rattle.text.specs.memory.Numbers.{beyond, numbersAt, NumberFound, SmallFound, LargeFound, ToldNumber}
+use Rattle.text.specs.memory.RuleLines.{positionAt, readFinalNames, ToldWord, ToldEnd, RangedFound, NumbersFound, ToldNumbers, PositionFound, Behind, ToldKind, ToldLine}
 use Rattle.text.specs.declared.number.Number.the-variants as number
 use Rattle.text.specs.declared.rule_line.Ended.{Ended}
 use Rattle.text.specs.declared.rule_line.Ended.the-variants as ended
 use Rattle.text.specs.declared.rule_line.NumbersRead.{NumbersRead}
 use Rattle.text.specs.declared.rule_line.NumbersRead.the-variants as numbers-read
-use Rattle.text.specs.declared.rule_line.LineKind.{LineKind}
 use Rattle.text.specs.declared.rule_line.LineKind.the-variants as kind
 use Rattle.text.specs.declared.rule_line.LineRead.{LineRead}
 use Rattle.text.specs.declared.rule_line.LineRead.the-variants as line
 use Rattle.text.proofs.Bytes.{range-within, range-below, range-above}
-use Rattle.text.proofs.Derivation.{reads-ranged}
+use Rattle.text.proofs.Derivation.{reads-ranged, reads-line}
 use Rattle.text.proofs.Found.{found-give, found-taken, found-then, refused-first, refused-then, found-require, refused-require, word-found, found-word, refused-word, found-token, refused-token, found-later, refused-later, oneOf-this, oneOf-other, oneOf-only}
-use Rattle.text.proofs.Outcome.{Allowed}
+use Rattle.text.proofs.Outcome.{Allowed, allowed-done}
 use Rattle.text.proofs.Places.{next-inside}
 use Rattle.text.proofs.Reading.{span-split}
 use Rattle.text.proofs.Separated.{prepended, prepended-none, prepended-more, reads-shrinks, separated-refused, separated-last, separated-more}
@@ -311,6 +310,10 @@ module _ (text : Bytes) (at : ℕ) {tail : Reader Line} {mid : ℕ} (behind : Be
   line-told (line.Split name path steps names many next) told = (line-read (told .0), told .1)
   line-told (line.Footer names many next) told = (line-read (told .0), told .1)
   line-told line.Malformed told = line-refused told
+
+-- what is read as a line fits
+pub line-fits : {text : Bytes} {at : ℕ} {l : Line} {next : ℕ} → Taken readLine text at l next → lineFits l ≡ true
+line-fits {text} {at} taken = allowed-done _ (readLine (drop at text)) _ (reads-line .sound (drop at text)) (taken .is) .0
 
 -- The heading.
 

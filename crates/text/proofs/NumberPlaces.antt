@@ -5,18 +5,18 @@ use Prim.Native.Nat.{ℕ, zero, suc, _+_, _*_, _-_, _/_, _%_, _≤_, _<_, min, m
 use native.Mathlib.Nat.{min-eq-left, min-eq-right, add-zero}
 use native.Mathlib.Decide.{decLe}
 use native.Mathlib.Omega.{arith}
-use mathlib.Core.Path.{_≡_, refl, sym, ap, ap₂, _∙_}
-use mathlib.Core.List.{List, [], _∷_, _++_}
-use mathlib.Core.Bool.{Bool, true, false, not, _&&_, and-true, false≢true}
+use mathlib.Core.Path.{_≡_, refl, sym, ap, _∙_}
+use mathlib.Core.List.{[], _∷_}
+use mathlib.Core.Bool.{Bool, true, false, not, and-true, false≢true}
 use lib.Dec.{eqb}
-use lib.ListN.{length, getD, drop, set, length-append, length-drop}
+use lib.ListN.{length, getD, drop, set, length-append}
 use lib.Seq.{sets, drop-drop}
 use Rattle.text.specs.Bytes as bytes
 use Rattle.text.specs.Bytes.{Bytes, next, span, every, isDigit}
 use Rattle.text.specs.Numbers.{valueAfter, value, noLeadingZero, isNumber, decimal}
 use Rattle.text.specs.Outcome.{done, refused}
 use Rattle.text.specs.Reading.{token, readNumber}
-use Rattle.text.specs.memory.Numbers.{beyond, digitsAt, numberAt, numberEnd, numbersAt, DigitsTold, NumberFound, SmallFound, LargeFound, ToldNumber}
+use Rattle.text.specs.memory.Numbers.{beyond, digitsAt, numberAt, numberEnd, numbersAt, DigitsTold, NumberFound, ToldNumber}
 use Rattle.text.specs.declared.number.Digits.{Digits}
 use Rattle.text.specs.declared.number.Number.the-variants.{Value, Beyond, Malformed}
 use Rattle.text.proofs.Laws.{sets-append}
@@ -160,6 +160,23 @@ module _ (text : Bytes) (at : ℕ) where
       pub number-large : beyond ≤ d .value → ToldNumber text at (Beyond (d .next))
       unfolding numberAt
       number-large h = record { number = value (digitsAt text at); found = number-found; large = omega (arith, told .value) }
+
+-- Numbers one after the other, from the digits at their places.
+
+pub length-numbersAt : (text : Bytes) (at many : ℕ) → length (numbersAt text at many) ≡ many
+unfolding numbersAt
+length-numbersAt text at zero = refl
+length-numbersAt text at (suc many) = ap suc (length-numbersAt text (numberEnd text at + 1) many)
+
+pub numbersAt-none : (text : Bytes) (at : ℕ) → numbersAt text at 0 ≡ []
+unfolding numbersAt
+numbersAt-none text at = refl
+
+pub numbersAt-more : (text : Bytes) (at : ℕ) (d : Digits) → DigitsTold text at d → (many : ℕ) → 0 < many
+    → numbersAt text at many ≡ d .value ∷ numbersAt text (d .next + 1) (many - 1)
+unfolding numbersAt
+numbersAt-more text at d told zero h = absurd (omega arith)
+numbersAt-more text at d told (suc many) h = let e : suc many - 1 ≡ many = omega arith in rw (e, told .value, told .next)
 
 -- The text of a number, written.
 

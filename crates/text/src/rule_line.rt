@@ -12,6 +12,12 @@ ghost use Rattle.text.specs.Derivation.{readRanged, readPath, atPosition
 ghost use Rattle.text.specs.memory.Numbers.{beyond};
 ghost use Rattle.text.specs.memory.RuleLines.{makeOf, readFinalNames, ToldWord, ToldEnd, ToldRanged, ToldNumbers, ToldPosition, ToldKind, ToldLine};
 
+const GREATEST_NAME: u32 = 65535;
+
+const GREATEST_PATH_NUMBER: u32 = 4095;
+
+const GROUNDER_SIZE: usize = 31;
+
 // The rules that change a formula, or a part of one.
 pub enum Rule {
     Snand,
@@ -160,7 +166,8 @@ fn path_at(text: &[u8], at: usize) -> NumbersRead
     let Ended::At(start) = word_end(text, at, b"[") else {
         return NumbersRead::Numbers(at, 0, at);
     };
-    let NumbersRead::Numbers(first, many, next) = numbers_at(text, start, 0, 4095) else {
+    let NumbersRead::Numbers(first, many, next) = numbers_at(text, start, 0, GREATEST_PATH_NUMBER)
+    else {
         return NumbersRead::Malformed;
     };
     let Ended::At(end) = word_end(text, next, b"]") else {
@@ -169,11 +176,12 @@ fn path_at(text: &[u8], at: usize) -> NumbersRead
     NumbersRead::Numbers(first, many, end)
 }
 
+// A formula's name, and a path in it.
 fn position_at(text: &[u8], at: usize) -> PositionRead
     requires { ⌜ at ≤ length (now text) ⌝ }
     ensures { λ r. ⌜ ToldPosition (now (text .entry)) at r ⌝ }
 {
-    let RangedRead::Value(name, next) = ranged_at(text, at, 1, 65535) else {
+    let RangedRead::Value(name, next) = ranged_at(text, at, 1, GREATEST_NAME) else {
         return PositionRead::Malformed;
     };
     let NumbersRead::Numbers(path, steps, end) = path_at(text, next) else {
@@ -227,7 +235,7 @@ fn split_at(text: &[u8], at: usize) -> LineRead
     let Ended::At(start) = word_end(text, next, b" -> ") else {
         return LineRead::Malformed;
     };
-    let NumbersRead::Numbers(names, many, last) = numbers_at(text, start, 1, 65535) else {
+    let NumbersRead::Numbers(names, many, last) = numbers_at(text, start, 1, GREATEST_NAME) else {
         return LineRead::Malformed;
     };
     let Ended::At(end) = word_end(text, last, b"\n") else {
@@ -251,7 +259,7 @@ fn final_names_at(text: &[u8], at: usize) -> NumbersRead
     if let Ended::At(next) = word_end(text, at, b"-") {
         return NumbersRead::Numbers(next, 0, next);
     }
-    numbers_at(text, at, 1, 65535)
+    numbers_at(text, at, 1, GREATEST_NAME)
 }
 
 // What follows the footer's word.
@@ -351,7 +359,7 @@ pub fn grounder_end(text: &[u8], at: usize) -> Ended
     if end - start < 1 {
         return Ended::Malformed;
     }
-    if 31 < end - start {
+    if GROUNDER_SIZE < end - start {
         return Ended::Malformed;
     }
     word_end(text, end, b"\n")

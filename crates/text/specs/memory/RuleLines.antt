@@ -5,7 +5,7 @@ use mathlib.Core.List.{List, [], _∷_}
 use mathlib.Core.Bool.{false}
 use lib.ListN.{length, drop}
 use Rattle.text.specs.Bytes.{Bytes, bytes, begins}
-use Rattle.text.specs.Outcome.{Outcome, done, refused}
+use Rattle.text.specs.Outcome.{Outcome, refused}
 use Rattle.text.specs.Reading.{Reader, give, _⇒_, oneOf, separated}
 use Rattle.text.specs.Derivation.{Position, Rule, SNAND, SNOR, STN, EPRED, EPROP, IQ, RuleLine, rewrite, unsat, trivial, splitc, Line, step, footer}
 use Rattle.text.specs.Derivation.{readRanged, readFormulaName, readPosition, atPosition, readSplit, readFooter}

@@ -1,8 +1,7 @@
 -- `number::digits_at` passes digits one by one. The invariant: what is read from here on behind the value so far is the number.
 -- Assumes nothing.
 use borrow.Author.Needs.{needs}
-use mathlib.Core.Path.{_≡_, sym, _∙_}
-use native.Mathlib.Omega.{arith}
+use mathlib.Core.Path.{sym, _∙_}
 use Prim.Native.Nat.{_-_}
 use lib.ListN.{length}
 use borrow.Author.Tests.{not-true, not-false}

@@ -1,7 +1,7 @@
 -- `number::number_at` takes the run of digits, sees that it is well spelled, and tells its value by the cap.
 -- Assumes nothing.
 use borrow.Author.Needs.{needs}
-use mathlib.Core.Path.{_≡_, sym, _∙_}
+use mathlib.Core.Path.{sym, _∙_}
 use borrow.Author.Tests.{not-true, not-false}
 use Rattle.text.proofs.NumberPlaces.{number-misspelled, number-small, number-large}
 use Rattle.text.proofs.number.number_at.Statement.{statement}

@@ -1,8 +1,8 @@
 -- `number::well_spelled` tells whether a run of digits is a number, by how many there are.
 -- Assumes nothing.
 use borrow.Author.Needs.{needs}
-use mathlib.Core.Path.{_≡_, ap, _∙_}
-use mathlib.Core.Bool.{Bool, not}
+use mathlib.Core.Path.{ap, _∙_}
+use mathlib.Core.Bool.{not}
 use Prim.Native.Nat.{ℕ}
 use lib.Dec.{eqb}
 use Rattle.text.proofs.NumberPlaces.{spelled-none, spelled-one, spelled-more}

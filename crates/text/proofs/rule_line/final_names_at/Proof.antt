@@ -1,7 +1,7 @@
 -- `rule_line::final_names_at` reads a dash, or names.
 -- Assumes nothing.
 use borrow.Author.Needs.{needs}
-use mathlib.Core.Path.{_≡_, subst}
+use mathlib.Core.Path.{subst}
 use Rattle.text.specs.Bytes.{bytes}
 use Rattle.text.specs.memory.RuleLines.{ToldWord}
 use Rattle.text.proofs.LinePlaces.{names-none, names-told}
@@ -20,7 +20,8 @@ enum-known-next c = search needs
 returns : tie.Need-returns
 returns c =
     let a = c .before .before .before .before .before .before .args in
-    names-none (subst (ToldWord (bytes "-") (a .text .now) (a .at)) (c .before .next .given .1) (c .before .before .before .word-end .ensures))
+    names-none
+    (subst (ToldWord (bytes "-") (a .text .now) (a .at)) (c .before .next .given .1) (c .before .before .before .word-end .ensures))
 
 enum-told : tie.Need-enum-told
 enum-told c = search needs
@@ -31,7 +32,8 @@ numbers-at-requires c κs = search needs
 returns-2 : tie.Need-returns-2
 returns-2 c =
     let a = c .before .before .before .before .before .before .args in
-    names-told (a .text .now) (a .at) (subst (ToldWord (bytes "-") (a .text .now) (a .at)) (c .before .enum-told .given .1) (c .before .before .before .word-end .ensures)) (c .numbers-at .result) (c .numbers-at .ensures)
+    names-told (a .text .now) (a .at)
+    (subst (ToldWord (bytes "-") (a .text .now) (a .at)) (c .before .enum-told .given .1) (c .before .before .before .word-end .ensures)) (c .numbers-at .result) (c .numbers-at .ensures)
 
 pub final-names-at-spec : {M : Type 1} → statement M
 final-names-at-spec =

@@ -1,14 +1,16 @@
 -- `rule_line::footer_at` reads the footer's names and the end of the line.
 -- Assumes nothing.
 use borrow.Author.Needs.{needs}
-use mathlib.Core.Path.{_≡_, subst}
+use mathlib.Core.Path.{subst}
 use Rattle.text.specs.Bytes.{bytes}
 use Rattle.text.specs.memory.RuleLines.{readFinalNames, ToldWord, NumbersFound, ToldNumbers}
 use Rattle.text.proofs.LinePlaces.{footer-refused, footer-open, footer-found}
 use Rattle.text.proofs.rule_line.footer_at.Statement.{statement}
 use Rattle.text.proofs.rule_line.footer_at.Tie as tie
 
-listed : (c : tie.After-names) → let a = c .before .before .before .before .args in NumbersFound readFinalNames (a .text .now) (a .at) (c .names .given .0 .0) (c .names .given .0 .1 .0) (c .names .given .0 .1 .1 .0)
+listed : (c : tie.After-names)
+    → let a = c .before .before .before .before .args in
+    NumbersFound readFinalNames (a .text .now) (a .at) (c .names .given .0 .0) (c .names .given .0 .1 .0) (c .names .given .0 .1 .1 .0)
 listed c =
     let a = c .before .before .before .before .args in
     subst (ToldNumbers readFinalNames (a .text .now) (a .at)) (c .names .given .1) (c .before .before .final-names-at .ensures)
@@ -25,7 +27,8 @@ enum-told c = search needs
 returns : tie.Need-returns
 returns c =
     let a = c .before .before .before .before .args in
-    footer-refused (subst (ToldNumbers readFinalNames (a .text .now) (a .at)) (c .enum-told .given .1) (c .before .before .final-names-at .ensures))
+    footer-refused
+    (subst (ToldNumbers readFinalNames (a .text .now) (a .at)) (c .enum-told .given .1) (c .before .before .final-names-at .ensures))
 
 slice-aggregate-word-end : tie.Need-slice-aggregate-word-end
 slice-aggregate-word-end c = search needs
@@ -42,12 +45,14 @@ enum-told-2 c = search needs
 returns-2 : tie.Need-returns-2
 returns-2 c =
     let a = c .before .before .before .before .before .before .before .before .before .args in
-    footer-open (listed (c .before .before .before .before .before)) (subst (ToldWord (bytes "\n") (a .text .now) (c .before .before .before .before .before .names .given .0 .1 .1 .0)) (c .enum-told2 .given .1) (c .before .before .word-end .ensures))
+    footer-open (listed (c .before .before .before .before .before))
+    (subst (ToldWord (bytes "\n") (a .text .now) (c .before .before .before .before .before .names .given .0 .1 .1 .0)) (c .enum-told2 .given .1) (c .before .before .word-end .ensures))
 
 returns-3 : tie.Need-returns-3
 returns-3 c =
     let a = c .before .before .before .before .before .before .before .before .before .before .args in
-    footer-found (listed (c .before .before .before .before .before .before)) (subst (ToldWord (bytes "\n") (a .text .now) (c .before .before .before .before .before .before .names .given .0 .1 .1 .0)) (c .before .end .given .1) (c .before .before .before .word-end .ensures))
+    footer-found (listed (c .before .before .before .before .before .before))
+    (subst (ToldWord (bytes "\n") (a .text .now) (c .before .before .before .before .before .before .names .given .0 .1 .1 .0)) (c .before .end .given .1) (c .before .before .before .word-end .ensures))
 
 pub footer-at-spec : {M : Type 1} → statement M
 footer-at-spec =

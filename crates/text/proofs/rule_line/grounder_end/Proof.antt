@@ -1,7 +1,7 @@
 -- `rule_line::grounder_end` reads the heading's second line: a word, a run of 1 to 31 bytes, and the end of the line.
 -- Assumes nothing.
 use borrow.Author.Needs.{needs}
-use mathlib.Core.Path.{_≡_, subst}
+use mathlib.Core.Path.{subst}
 use native.Mathlib.Omega.{arith}
 use Rattle.text.specs.Bytes.{bytes}
 use Rattle.text.specs.memory.Found.{WordFound}
@@ -10,7 +10,9 @@ use Rattle.text.proofs.LinePlaces.{grounder-unmarked, grounder-empty, g
 use Rattle.text.proofs.rule_line.grounder_end.Statement.{statement}
 use Rattle.text.proofs.rule_line.grounder_end.Tie as tie
 
-marked : (c : tie.After-start) → let a = c .before .before .before .before .before .args in WordFound (bytes "grounder=") (a .text .now) (a .at) (c .start .given .0 .0)
+marked : (c : tie.After-start)
+    → let a = c .before .before .before .before .before .args in
+    WordFound (bytes "grounder=") (a .text .now) (a .at) (c .start .given .0 .0)
 marked c =
     let a = c .before .before .before .before .before .args in
     subst (ToldWord (bytes "grounder=") (a .text .now) (a .at)) (c .start .given .1) (c .before .before .word-end .ensures)
@@ -30,7 +32,8 @@ enum-told c = search needs
 returns : tie.Need-returns
 returns c =
     let a = c .before .before .before .before .before .args in
-    grounder-unmarked (a .text .now) (a .at) (subst (ToldWord (bytes "grounder=") (a .text .now) (a .at)) (c .enum-told .given .1) (c .before .before .word-end .ensures))
+    grounder-unmarked (a .text .now) (a .at)
+    (subst (ToldWord (bytes "grounder=") (a .text .now) (a .at)) (c .enum-told .given .1) (c .before .before .word-end .ensures))
 
 run-end-requires : tie.Need-run-end-requires
 run-end-requires c κs = marked (c .before) .within
@@ -60,7 +63,8 @@ word-end-requires-2 c κs = c .before .before .before .run-end .ensures .1
 returns-4 : tie.Need-returns-4
 returns-4 c =
     let a = c .before .before .before .before .before .before .before .before .before .before .before .args in
-    grounder-told (a .text .now) (a .at) _ (marked (c .before .before .before .before .before .before)) _ (c .before .before .before .before .run-end .ensures .0) (c .before .before .before .before .run-end .ensures .1) (c .before .before .before .if1 .left) (c .before .before .if2 .left)
+    grounder-told (a .text .now) (a .at) _ (marked (c .before .before .before .before .before .before)) _ (c .before .before .before .before .run-end .ensures .0) (c .before .before .before .before .run-end .ensures .1)
+    (c .before .before .before .if1 .left) (c .before .before .if2 .left)
     (c .word-end2 .result) (c .word-end2 .ensures)
 
 pub grounder-end-spec : {M : Type 1} → statement M

@@ -1,7 +1,7 @@
 -- `rule_line::line_at` tells a line's kind by its word, and reads what follows as that kind.
 -- Assumes nothing.
 use borrow.Author.Needs.{needs}
-use mathlib.Core.Path.{_≡_, subst, _∙_}
+use mathlib.Core.Path.{subst}
 use lib.ListN.{drop}
 use Rattle.text.specs.Derivation.{atPosition, readSplit, readFooter, readLine}
 use Rattle.text.specs.memory.RuleLines.{makeOf, Behind, ToldKind}
@@ -9,17 +9,23 @@ use Rattle.text.proofs.LinePlaces.{line-told}
 use Rattle.text.proofs.rule_line.line_at.Statement.{statement}
 use Rattle.text.proofs.rule_line.line_at.Tie as tie
 
-ending : (c : tie.After-kind) → let a = c .before .before .before .before .args in Behind (readLine (drop (a .at) (a .text .now))) (atPosition (makeOf (c .kind .given .0 .0))) (a .text .now) (a .at) (c .kind .given .0 .1 .0)
+ending : (c : tie.After-kind)
+    → let a = c .before .before .before .before .args in
+    Behind (readLine (drop (a .at) (a .text .now))) (atPosition (makeOf (c .kind .given .0 .0))) (a .text .now) (a .at) (c .kind .given .0 .1 .0)
 ending c =
     let a = c .before .before .before .before .args in
     subst (ToldKind (readLine (drop (a .at) (a .text .now))) (a .text .now) (a .at)) (c .kind .given .1) (c .before .before .kind-at .ensures)
 
-splitting : (c : tie.After-next) → let a = c .before .before .before .before .args in Behind (readLine (drop (a .at) (a .text .now))) readSplit (a .text .now) (a .at) (c .next .given .0 .0)
+splitting : (c : tie.After-next)
+    → let a = c .before .before .before .before .args in
+    Behind (readLine (drop (a .at) (a .text .now))) readSplit (a .text .now) (a .at) (c .next .given .0 .0)
 splitting c =
     let a = c .before .before .before .before .args in
     subst (ToldKind (readLine (drop (a .at) (a .text .now))) (a .text .now) (a .at)) (c .next .given .1) (c .before .before .kind-at .ensures)
 
-final : (c : tie.After-next2) → let a = c .before .before .before .before .args in Behind (readLine (drop (a .at) (a .text .now))) readFooter (a .text .now) (a .at) (c .next2 .given .0 .0)
+final : (c : tie.After-next2)
+    → let a = c .before .before .before .before .args in
+    Behind (readLine (drop (a .at) (a .text .now))) readFooter (a .text .now) (a .at) (c .next2 .given .0 .0)
 final c =
     let a = c .before .before .before .before .args in
     subst (ToldKind (readLine (drop (a .at) (a .text .now))) (a .text .now) (a .at)) (c .next2 .given .1) (c .before .before .kind-at .ensures)

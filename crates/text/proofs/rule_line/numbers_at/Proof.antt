@@ -1,7 +1,7 @@
 -- `rule_line::numbers_at` reads numbers one by one. The invariant: the list is what was read and the list from here on.
 -- Assumes nothing.
 use borrow.Author.Needs.{needs}
-use mathlib.Core.Path.{_≡_, sym, _∙_, subst}
+use mathlib.Core.Path.{sym, _∙_, subst}
 use native.Mathlib.Omega.{arith}
 use Prim.Native.Nat.{_-_}
 use lib.ListN.{length}
@@ -16,7 +16,9 @@ Inv-loop text at least greatest i₀ many₀ i many = NumbersPassed least greate
 abbrev μ-loop : tie.MeasureT-loop
 μ-loop text at least greatest i₀ many₀ i many = length text - i
 
-found : (c : tie.After-next Inv-loop μ-loop) → let a = c .before .before .before .before .before .args in RangedFound (a .least) (a .greatest) (a .text .now) (c .before .before .before .loop .i) (c .next .given .0 .0) (c .next .given .0 .1 .0)
+found : (c : tie.After-next Inv-loop μ-loop)
+    → let a = c .before .before .before .before .before .args in
+    RangedFound (a .least) (a .greatest) (a .text .now) (c .before .before .before .loop .i) (c .next .given .0 .0) (c .next .given .0 .1 .0)
 found c =
     let a = c .before .before .before .before .before .args in
     subst (ToldRanged (a .least) (a .greatest) (a .text .now) (c .before .before .before .loop .i)) (c .next .given .1) (c .before .before .ranged-at .ensures)
@@ -41,7 +43,9 @@ peek-requires c κs = search needs
 returns : tie.Need-returns Inv-loop μ-loop
 returns c =
     let a = c .before .before .before .before .before .before .before .before .args in
-    numbers-last (a .least) (a .greatest) (a .text .now) (a .at) (c .before .before .before .before .before .before .loop .i) (c .before .before .before .before .before .before .loop .many) (c .before .before .before .before .before .before .loop .inv) _ _ (found (c .before .before .before)) (λ e. c .if1 .taken (c .before .peek .ensures ∙ e))
+    numbers-last (a .least) (a .greatest) (a .text .now) (a .at) (c .before .before .before .before .before .before .loop .i) (c .before .before .before .before .before .before .loop .many) (c .before .before .before .before .before .before .loop .inv) _ _
+    (found (c .before .before .before))
+    (λ e. c .if1 .taken (c .before .peek .ensures ∙ e))
 
 add-i : tie.Need-add-i Inv-loop μ-loop
 add-i c = let f = found (c .before .before .before) in omega (arith, f .found .within)
@@ -52,7 +56,9 @@ loop-less c = let f = found (c .before .before .before) in omega (arith, f .foun
 loop-again : tie.Need-loop-again Inv-loop μ-loop
 loop-again c =
     let a = c .before .before .before .before .before .before .before .before .args in
-    numbers-on (a .least) (a .greatest) (a .text .now) (a .at) (c .before .before .before .before .before .before .loop .i) (c .before .before .before .before .before .before .loop .many) (c .before .before .before .before .before .before .loop .inv) _ _ (found (c .before .before .before)) (sym (c .before .peek .ensures) ∙ c .if1 .left)
+    numbers-on (a .least) (a .greatest) (a .text .now) (a .at) (c .before .before .before .before .before .before .loop .i) (c .before .before .before .before .before .before .loop .many) (c .before .before .before .before .before .before .loop .inv) _ _
+    (found (c .before .before .before))
+    (sym (c .before .peek .ensures) ∙ c .if1 .left)
 
 enum-told : tie.Need-enum-told Inv-loop μ-loop
 enum-told c = search needs

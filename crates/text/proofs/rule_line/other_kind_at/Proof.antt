@@ -11,29 +11,45 @@ use Rattle.text.proofs.rule_line.other_kind_at.Statement.{statement}
 use Rattle.text.proofs.rule_line.other_kind_at.Tie as tie
 
 -- after each word that does not stand there
-passed-1 : (c : tie.Else1) → let a = c .before .before .before .before .args in oneOf (drop 6 lineKinds) (refuse 10) (drop (a .at) (a .text .now)) ≡ oneOf (drop 7 lineKinds) (refuse 10) (drop (a .at) (a .text .now))
+passed-1 : (c : tie.Else1)
+    → let a = c .before .before .before .before .args in
+    oneOf (drop 6 lineKinds) (refuse 10) (drop (a .at) (a .text .now))
+    ≡ oneOf (drop 7 lineKinds) (refuse 10) (drop (a .at) (a .text .now))
 unfolding lineKinds
 passed-1 c =
     let a = c .before .before .before .before .args in
-    kind-other (a .text .now) (a .at) _ _ _ refl (sym (c .before .begins-at .ensures) ∙ c .if1 .left)
+    kind-other (a .text .now) (a .at) _ _ _ refl
+    (sym (c .before .begins-at .ensures) ∙ c .if1 .left)
 
-passed-2 : (c : tie.Else2) → let a = c .before .before .before .before .before .before .before .args in oneOf (drop 6 lineKinds) (refuse 10) (drop (a .at) (a .text .now)) ≡ oneOf (drop 8 lineKinds) (refuse 10) (drop (a .at) (a .text .now))
+passed-2 : (c : tie.Else2)
+    → let a = c .before .before .before .before .before .before .before .args in
+    oneOf (drop 6 lineKinds) (refuse 10) (drop (a .at) (a .text .now))
+    ≡ oneOf (drop 8 lineKinds) (refuse 10) (drop (a .at) (a .text .now))
 unfolding lineKinds
 passed-2 c =
     let a = c .before .before .before .before .before .before .before .args in
-    kind-other (a .text .now) (a .at) _ _ _ (passed-1 (c .before .before .before)) (sym (c .before .begins-at2 .ensures) ∙ c .if2 .left)
+    kind-other (a .text .now) (a .at) _ _ _ (passed-1 (c .before .before .before))
+    (sym (c .before .begins-at2 .ensures) ∙ c .if2 .left)
 
-passed-3 : (c : tie.Else3) → let a = c .before .before .before .before .before .before .before .before .before .before .args in oneOf (drop 6 lineKinds) (refuse 10) (drop (a .at) (a .text .now)) ≡ oneOf (drop 9 lineKinds) (refuse 10) (drop (a .at) (a .text .now))
+passed-3 : (c : tie.Else3)
+    → let a = c .before .before .before .before .before .before .before .before .before .before .args in
+    oneOf (drop 6 lineKinds) (refuse 10) (drop (a .at) (a .text .now))
+    ≡ oneOf (drop 9 lineKinds) (refuse 10) (drop (a .at) (a .text .now))
 unfolding lineKinds
 passed-3 c =
     let a = c .before .before .before .before .before .before .before .before .before .before .args in
-    kind-other (a .text .now) (a .at) _ _ _ (passed-2 (c .before .before .before)) (sym (c .before .begins-at3 .ensures) ∙ c .if3 .left)
+    kind-other (a .text .now) (a .at) _ _ _ (passed-2 (c .before .before .before))
+    (sym (c .before .begins-at3 .ensures) ∙ c .if3 .left)
 
-passed-4 : (c : tie.Else4) → let a = c .before .before .before .before .before .before .before .before .before .before .before .before .before .args in oneOf (drop 6 lineKinds) (refuse 10) (drop (a .at) (a .text .now)) ≡ oneOf (drop 10 lineKinds) (refuse 10) (drop (a .at) (a .text .now))
+passed-4 : (c : tie.Else4)
+    → let a = c .before .before .before .before .before .before .before .before .before .before .before .before .before .args in
+    oneOf (drop 6 lineKinds) (refuse 10) (drop (a .at) (a .text .now))
+    ≡ oneOf (drop 10 lineKinds) (refuse 10) (drop (a .at) (a .text .now))
 unfolding lineKinds
 passed-4 c =
     let a = c .before .before .before .before .before .before .before .before .before .before .before .before .before .args in
-    kind-other (a .text .now) (a .at) _ _ _ (passed-3 (c .before .before .before)) (sym (c .before .begins-at4 .ensures) ∙ c .if4 .left)
+    kind-other (a .text .now) (a .at) _ _ _ (passed-3 (c .before .before .before))
+    (sym (c .before .begins-at4 .ensures) ∙ c .if4 .left)
 
 slice-aggregate-begins-at : tie.Need-slice-aggregate-begins-at
 slice-aggregate-begins-at c = search needs
@@ -48,7 +64,8 @@ returns : tie.Need-returns
 unfolding lineKinds
 returns c =
     let a = c .before .before .before .before .args in
-    kind-this (a .text .now) (a .at) _ _ _ refl (c .before .before .before .before .pre) (sym (c .before .begins-at .ensures) ∙ c .if1 .taken) (omega arith)
+    kind-this (a .text .now) (a .at) _ _ _ refl (c .before .before .before .before .pre)
+    (sym (c .before .begins-at .ensures) ∙ c .if1 .taken) (omega arith)
 
 slice-aggregate-begins-at-2 : tie.Need-slice-aggregate-begins-at-2
 slice-aggregate-begins-at-2 c = search needs
@@ -63,7 +80,8 @@ returns-2 : tie.Need-returns-2
 unfolding lineKinds
 returns-2 c =
     let a = c .before .before .before .before .before .before .before .args in
-    kind-this (a .text .now) (a .at) _ _ _ (passed-1 (c .before .before .before)) (c .before .before .before .before .before .before .before .pre) (sym (c .before .begins-at2 .ensures) ∙ c .if2 .taken) (omega arith)
+    kind-this (a .text .now) (a .at) _ _ _ (passed-1 (c .before .before .before)) (c .before .before .before .before .before .before .before .pre)
+    (sym (c .before .begins-at2 .ensures) ∙ c .if2 .taken) (omega arith)
 
 slice-aggregate-begins-at-3 : tie.Need-slice-aggregate-begins-at-3
 slice-aggregate-begins-at-3 c = search needs
@@ -78,7 +96,8 @@ returns-3 : tie.Need-returns-3
 unfolding lineKinds
 returns-3 c =
     let a = c .before .before .before .before .before .before .before .before .before .before .args in
-    kind-this (a .text .now) (a .at) _ _ _ (passed-2 (c .before .before .before)) (c .before .before .before .before .before .before .before .before .before .before .pre) (sym (c .before .begins-at3 .ensures) ∙ c .if3 .taken) (omega arith)
+    kind-this (a .text .now) (a .at) _ _ _ (passed-2 (c .before .before .before)) (c .before .before .before .before .before .before .before .before .before .before .pre)
+    (sym (c .before .begins-at3 .ensures) ∙ c .if3 .taken) (omega arith)
 
 slice-aggregate-begins-at-4 : tie.Need-slice-aggregate-begins-at-4
 slice-aggregate-begins-at-4 c = search needs
@@ -93,7 +112,8 @@ returns-4 : tie.Need-returns-4
 unfolding lineKinds
 returns-4 c =
     let a = c .before .before .before .before .before .before .before .before .before .before .before .before .before .args in
-    kind-this (a .text .now) (a .at) _ _ _ (passed-3 (c .before .before .before)) (c .before .before .before .before .before .before .before .before .before .before .before .before .before .pre) (sym (c .before .begins-at4 .ensures) ∙ c .if4 .taken) (omega arith)
+    kind-this (a .text .now) (a .at) _ _ _ (passed-3 (c .before .before .before)) (c .before .before .before .before .before .before .before .before .before .before .before .before .before .pre)
+    (sym (c .before .begins-at4 .ensures) ∙ c .if4 .taken) (omega arith)
 
 returns-5 : tie.Need-returns-5
 unfolding lineKinds

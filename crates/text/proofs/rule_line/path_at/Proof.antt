@@ -1,7 +1,7 @@
 -- `rule_line::path_at` reads numbers in brackets; where no bracket opens, the path is empty.
 -- Assumes nothing.
 use borrow.Author.Needs.{needs}
-use mathlib.Core.Path.{_≡_, subst}
+use mathlib.Core.Path.{subst}
 use native.Mathlib.Omega.{arith}
 use Rattle.text.specs.Bytes.{bytes}
 use Rattle.text.specs.Reading.{separated}
@@ -12,12 +12,16 @@ use Rattle.text.proofs.LinePlaces.{path-none, path-refused, path-open, 
 use Rattle.text.proofs.rule_line.path_at.Statement.{statement}
 use Rattle.text.proofs.rule_line.path_at.Tie as tie
 
-bracket : (c : tie.After-start) → let a = c .before .before .before .before .before .args in WordFound (bytes "[") (a .text .now) (a .at) (c .start .given .0 .0)
+bracket : (c : tie.After-start)
+    → let a = c .before .before .before .before .before .args in
+    WordFound (bytes "[") (a .text .now) (a .at) (c .start .given .0 .0)
 bracket c =
     let a = c .before .before .before .before .before .args in
     subst (ToldWord (bytes "[") (a .text .now) (a .at)) (c .start .given .1) (c .before .before .word-end .ensures)
 
-numbers : (c : tie.After-first) → let a = c .before .before .before .before .before .before .before .before .before .args in NumbersFound (separated 44 (readRanged 0 4095)) (a .text .now) (c .before .before .before .before .start .given .0 .0) (c .first .given .0 .0) (c .first .given .0 .1 .0) (c .first .given .0 .1 .1 .0)
+numbers : (c : tie.After-first)
+    → let a = c .before .before .before .before .before .before .before .before .before .args in
+    NumbersFound (separated 44 (readRanged 0 4095)) (a .text .now) (c .before .before .before .before .start .given .0 .0) (c .first .given .0 .0) (c .first .given .0 .1 .0) (c .first .given .0 .1 .1 .0)
 numbers c =
     let a = c .before .before .before .before .before .before .before .before .before .args in
     subst (ToldNumbers (separated 44 (readRanged 0 4095)) (a .text .now) (c .before .before .before .before .start .given .0 .0)) (c .first .given .1) (c .before .before .numbers-at .ensures)
@@ -37,7 +41,8 @@ enum-told c = search needs
 returns : tie.Need-returns
 returns c =
     let a = c .before .before .before .before .before .args in
-    path-none (subst (ToldWord (bytes "[") (a .text .now) (a .at)) (c .enum-told .given .1) (c .before .before .word-end .ensures)) (c .before .before .before .before .before .pre)
+    path-none
+    (subst (ToldWord (bytes "[") (a .text .now) (a .at)) (c .enum-told .given .1) (c .before .before .word-end .ensures)) (c .before .before .before .before .before .pre)
 
 numbers-at-requires : tie.Need-numbers-at-requires
 numbers-at-requires c κs = (bracket (c .before) .within, omega arith)
@@ -51,7 +56,8 @@ enum-told-2 c = search needs
 returns-2 : tie.Need-returns-2
 returns-2 c =
     let a = c .before .before .before .before .before .before .before .before .before .args in
-    path-refused (bracket (c .before .before .before .before)) (subst (ToldNumbers (separated 44 (readRanged 0 4095)) (a .text .now) (c .before .before .before .before .start .given .0 .0)) (c .enum-told2 .given .1) (c .before .before .numbers-at .ensures))
+    path-refused (bracket (c .before .before .before .before))
+    (subst (ToldNumbers (separated 44 (readRanged 0 4095)) (a .text .now) (c .before .before .before .before .start .given .0 .0)) (c .enum-told2 .given .1) (c .before .before .numbers-at .ensures))
 
 slice-aggregate-word-end-2 : tie.Need-slice-aggregate-word-end-2
 slice-aggregate-word-end-2 c = search needs
@@ -68,12 +74,14 @@ enum-told-3 c = search needs
 returns-3 : tie.Need-returns-3
 returns-3 c =
     let a = c .before .before .before .before .before .before .before .before .before .before .before .before .before .before .args in
-    path-open (bracket (c .before .before .before .before .before .before .before .before .before)) (numbers (c .before .before .before .before .before)) (subst (ToldWord (bytes "]") (a .text .now) (c .before .before .before .before .before .first .given .0 .1 .1 .0)) (c .enum-told3 .given .1) (c .before .before .word-end2 .ensures))
+    path-open (bracket (c .before .before .before .before .before .before .before .before .before)) (numbers (c .before .before .before .before .before))
+    (subst (ToldWord (bytes "]") (a .text .now) (c .before .before .before .before .before .first .given .0 .1 .1 .0)) (c .enum-told3 .given .1) (c .before .before .word-end2 .ensures))
 
 returns-4 : tie.Need-returns-4
 returns-4 c =
     let a = c .before .before .before .before .before .before .before .before .before .before .before .before .before .before .before .args in
-    path-found (bracket (c .before .before .before .before .before .before .before .before .before .before)) (numbers (c .before .before .before .before .before .before)) (subst (ToldWord (bytes "]") (a .text .now) (c .before .before .before .before .before .before .first .given .0 .1 .1 .0)) (c .before .end .given .1) (c .before .before .before .word-end2 .ensures))
+    path-found (bracket (c .before .before .before .before .before .before .before .before .before .before)) (numbers (c .before .before .before .before .before .before))
+    (subst (ToldWord (bytes "]") (a .text .now) (c .before .before .before .before .before .before .first .given .0 .1 .1 .0)) (c .before .end .given .1) (c .before .before .before .word-end2 .ensures))
 
 pub path-at-spec : {M : Type 1} → statement M
 path-at-spec =

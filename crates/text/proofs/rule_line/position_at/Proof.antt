@@ -1,14 +1,16 @@
 -- `rule_line::position_at` reads a name and then a path.
 -- Assumes nothing.
 use borrow.Author.Needs.{needs}
-use mathlib.Core.Path.{_≡_, subst}
+use mathlib.Core.Path.{subst}
 use Rattle.text.specs.Derivation.{readPath}
 use Rattle.text.specs.memory.RuleLines.{RangedFound, ToldRanged, ToldNumbers}
 use Rattle.text.proofs.LinePlaces.{position-unnamed, position-refused, position-found}
 use Rattle.text.proofs.rule_line.position_at.Statement.{statement}
 use Rattle.text.proofs.rule_line.position_at.Tie as tie
 
-named : (c : tie.After-name) → let a = c .before .before .before .before .args in RangedFound 1 65535 (a .text .now) (a .at) (c .name .given .0 .0) (c .name .given .0 .1 .0)
+named : (c : tie.After-name)
+    → let a = c .before .before .before .before .args in
+    RangedFound 1 65535 (a .text .now) (a .at) (c .name .given .0 .0) (c .name .given .0 .1 .0)
 named c =
     let a = c .before .before .before .before .args in
     subst (ToldRanged 1 65535 (a .text .now) (a .at)) (c .name .given .1) (c .before .before .ranged-at .ensures)
@@ -25,7 +27,8 @@ enum-told c = search needs
 returns : tie.Need-returns
 returns c =
     let a = c .before .before .before .before .args in
-    position-unnamed (subst (ToldRanged 1 65535 (a .text .now) (a .at)) (c .enum-told .given .1) (c .before .before .ranged-at .ensures))
+    position-unnamed
+    (subst (ToldRanged 1 65535 (a .text .now) (a .at)) (c .enum-told .given .1) (c .before .before .ranged-at .ensures))
 
 path-at-requires : tie.Need-path-at-requires
 path-at-requires c κs = named (c .before) .found .within
@@ -39,12 +42,14 @@ enum-told-2 c = search needs
 returns-2 : tie.Need-returns-2
 returns-2 c =
     let a = c .before .before .before .before .before .before .before .before .args in
-    position-refused (named (c .before .before .before .before)) (subst (ToldNumbers readPath (a .text .now) (c .before .before .before .before .name .given .0 .1 .0)) (c .enum-told2 .given .1) (c .before .before .path-at .ensures))
+    position-refused (named (c .before .before .before .before))
+    (subst (ToldNumbers readPath (a .text .now) (c .before .before .before .before .name .given .0 .1 .0)) (c .enum-told2 .given .1) (c .before .before .path-at .ensures))
 
 returns-3 : tie.Need-returns-3
 returns-3 c =
     let a = c .before .before .before .before .before .before .before .before .before .args in
-    position-found (named (c .before .before .before .before .before)) (subst (ToldNumbers readPath (a .text .now) (c .before .before .before .before .before .name .given .0 .1 .0)) (c .before .path .given .1) (c .before .before .before .path-at .ensures))
+    position-found (named (c .before .before .before .before .before))
+    (subst (ToldNumbers readPath (a .text .now) (c .before .before .before .before .before .name .given .0 .1 .0)) (c .before .path .given .1) (c .before .before .before .path-at .ensures))
 
 pub position-at-spec : {M : Type 1} → statement M
 position-at-spec =

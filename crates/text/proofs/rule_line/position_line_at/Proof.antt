@@ -1,7 +1,7 @@
 -- `rule_line::position_line_at` reads a position and the end of its line, and makes the line of them.
 -- Assumes nothing.
 use borrow.Author.Needs.{needs}
-use mathlib.Core.Path.{_≡_, subst}
+use mathlib.Core.Path.{subst}
 use Rattle.text.specs.Bytes.{bytes}
 use Rattle.text.specs.Derivation.{rewrite, unsat, trivial}
 use Rattle.text.specs.memory.RuleLines.{ruleOf, makeOf, ToldWord, PositionFound, ToldPosition}
@@ -9,7 +9,9 @@ use Rattle.text.proofs.LinePlaces.{last-refused, last-open, last-found}
 use Rattle.text.proofs.rule_line.position_line_at.Statement.{statement}
 use Rattle.text.proofs.rule_line.position_line_at.Tie as tie
 
-position : (c : tie.After-name) → let a = c .before .before .before .before .args in PositionFound (a .text .now) (a .at) (c .name .given .0 .0) (c .name .given .0 .1 .0) (c .name .given .0 .1 .1 .0) (c .name .given .0 .1 .1 .1 .0)
+position : (c : tie.After-name)
+    → let a = c .before .before .before .before .args in
+    PositionFound (a .text .now) (a .at) (c .name .given .0 .0) (c .name .given .0 .1 .0) (c .name .given .0 .1 .1 .0) (c .name .given .0 .1 .1 .1 .0)
 position c =
     let a = c .before .before .before .before .args in
     subst (ToldPosition (a .text .now) (a .at)) (c .name .given .1) (c .before .before .position-at .ensures)
@@ -26,7 +28,8 @@ enum-told c = search needs
 returns : tie.Need-returns
 returns c =
     let a = c .before .before .before .before .args in
-    last-refused (makeOf (a .kind)) (subst (ToldPosition (a .text .now) (a .at)) (c .enum-told .given .1) (c .before .before .position-at .ensures))
+    last-refused (makeOf (a .kind))
+    (subst (ToldPosition (a .text .now) (a .at)) (c .enum-told .given .1) (c .before .before .position-at .ensures))
 
 slice-aggregate-word-end : tie.Need-slice-aggregate-word-end
 slice-aggregate-word-end c = search needs
@@ -43,7 +46,8 @@ enum-told-2 c = search needs
 returns-2 : tie.Need-returns-2
 returns-2 c =
     let a = c .before .before .before .before .before .before .before .before .before .args in
-    last-open (makeOf (a .kind)) (position (c .before .before .before .before .before)) (subst (ToldWord (bytes "\n") (a .text .now) (c .before .before .before .before .before .name .given .0 .1 .1 .1 .0)) (c .enum-told2 .given .1) (c .before .before .word-end .ensures))
+    last-open (makeOf (a .kind)) (position (c .before .before .before .before .before))
+    (subst (ToldWord (bytes "\n") (a .text .now) (c .before .before .before .before .before .name .given .0 .1 .1 .1 .0)) (c .enum-told2 .given .1) (c .before .before .word-end .ensures))
 
 enum-known-kind : tie.Need-enum-known-kind
 enum-known-kind c = search needs
@@ -57,17 +61,23 @@ enum-told-4 c = search needs
 returns-3 : tie.Need-returns-3
 returns-3 c =
     let a = c .before .before .before .before .before .before .before .before .before .before .before .before .before .args in
-    rw (c .before .kind .given .1) (last-found (rewrite (ruleOf (c .before .kind .given .0 .0))) (position (c .before .before .before .before .before .before .before .before .before)) (subst (ToldWord (bytes "\n") (a .text .now) (c .before .before .before .before .before .before .before .before .before .name .given .0 .1 .1 .1 .0)) (c .before .before .before .before .next .given .1) (c .before .before .before .before .before .before .word-end .ensures)))
+    rw (c .before .kind .given .1)
+    (last-found (rewrite (ruleOf (c .before .kind .given .0 .0))) (position (c .before .before .before .before .before .before .before .before .before))
+    (subst (ToldWord (bytes "\n") (a .text .now) (c .before .before .before .before .before .before .before .before .before .name .given .0 .1 .1 .1 .0)) (c .before .before .before .before .next .given .1) (c .before .before .before .before .before .before .word-end .ensures)))
 
 returns-4 : tie.Need-returns-4
 returns-4 c =
     let a = c .before .before .before .before .before .before .before .before .before .before .before .before .args in
-    rw (c .enum-told3 .given .1) (last-found unsat (position (c .before .before .before .before .before .before .before .before)) (subst (ToldWord (bytes "\n") (a .text .now) (c .before .before .before .before .before .before .before .before .name .given .0 .1 .1 .1 .0)) (c .before .before .before .next .given .1) (c .before .before .before .before .before .word-end .ensures)))
+    rw (c .enum-told3 .given .1)
+    (last-found unsat (position (c .before .before .before .before .before .before .before .before))
+    (subst (ToldWord (bytes "\n") (a .text .now) (c .before .before .before .before .before .before .before .before .name .given .0 .1 .1 .1 .0)) (c .before .before .before .next .given .1) (c .before .before .before .before .before .word-end .ensures)))
 
 returns-5 : tie.Need-returns-5
 returns-5 c =
     let a = c .before .before .before .before .before .before .before .before .before .before .before .before .args in
-    rw (c .enum-told4 .given .1) (last-found trivial (position (c .before .before .before .before .before .before .before .before)) (subst (ToldWord (bytes "\n") (a .text .now) (c .before .before .before .before .before .before .before .before .name .given .0 .1 .1 .1 .0)) (c .before .before .before .next .given .1) (c .before .before .before .before .before .word-end .ensures)))
+    rw (c .enum-told4 .given .1)
+    (last-found trivial (position (c .before .before .before .before .before .before .before .before))
+    (subst (ToldWord (bytes "\n") (a .text .now) (c .before .before .before .before .before .before .before .before .name .given .0 .1 .1 .1 .0)) (c .before .before .before .next .given .1) (c .before .before .before .before .before .word-end .ensures)))
 
 pub position-line-at-spec : {M : Type 1} → statement M
 position-line-at-spec =

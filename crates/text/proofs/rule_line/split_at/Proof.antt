@@ -1,7 +1,7 @@
 -- `rule_line::split_at` reads a position, the arrow, the new names and the end of the line.
 -- Assumes nothing.
 use borrow.Author.Needs.{needs}
-use mathlib.Core.Path.{_≡_, subst}
+use mathlib.Core.Path.{subst}
 use native.Mathlib.Omega.{arith}
 use Rattle.text.specs.Bytes.{bytes}
 use Rattle.text.specs.Reading.{separated}
@@ -12,17 +12,23 @@ use Rattle.text.proofs.LinePlaces.{split-refused, split-unmarked, split
 use Rattle.text.proofs.rule_line.split_at.Statement.{statement}
 use Rattle.text.proofs.rule_line.split_at.Tie as tie
 
-position : (c : tie.After-name) → let a = c .before .before .before .before .args in PositionFound (a .text .now) (a .at) (c .name .given .0 .0) (c .name .given .0 .1 .0) (c .name .given .0 .1 .1 .0) (c .name .given .0 .1 .1 .1 .0)
+position : (c : tie.After-name)
+    → let a = c .before .before .before .before .args in
+    PositionFound (a .text .now) (a .at) (c .name .given .0 .0) (c .name .given .0 .1 .0) (c .name .given .0 .1 .1 .0) (c .name .given .0 .1 .1 .1 .0)
 position c =
     let a = c .before .before .before .before .args in
     subst (ToldPosition (a .text .now) (a .at)) (c .name .given .1) (c .before .before .position-at .ensures)
 
-arrow : (c : tie.After-start) → let a = c .before .before .before .before .before .before .before .before .before .args in WordFound (bytes " -> ") (a .text .now) (c .before .before .before .before .before .name .given .0 .1 .1 .1 .0) (c .start .given .0 .0)
+arrow : (c : tie.After-start)
+    → let a = c .before .before .before .before .before .before .before .before .before .args in
+    WordFound (bytes " -> ") (a .text .now) (c .before .before .before .before .before .name .given .0 .1 .1 .1 .0) (c .start .given .0 .0)
 arrow c =
     let a = c .before .before .before .before .before .before .before .before .before .args in
     subst (ToldWord (bytes " -> ") (a .text .now) (c .before .before .before .before .before .name .given .0 .1 .1 .1 .0)) (c .start .given .1) (c .before .before .word-end .ensures)
 
-listed : (c : tie.After-names) → let a = c .before .before .before .before .before .before .before .before .before .before .before .before .before .args in NumbersFound (separated 44 (readRanged 1 65535)) (a .text .now) (c .before .before .before .before .start .given .0 .0) (c .names .given .0 .0) (c .names .given .0 .1 .0) (c .names .given .0 .1 .1 .0)
+listed : (c : tie.After-names)
+    → let a = c .before .before .before .before .before .before .before .before .before .before .before .before .before .args in
+    NumbersFound (separated 44 (readRanged 1 65535)) (a .text .now) (c .before .before .before .before .start .given .0 .0) (c .names .given .0 .0) (c .names .given .0 .1 .0) (c .names .given .0 .1 .1 .0)
 listed c =
     let a = c .before .before .before .before .before .before .before .before .before .before .before .before .before .args in
     subst (ToldNumbers (separated 44 (readRanged 1 65535)) (a .text .now) (c .before .before .before .before .start .given .0 .0)) (c .names .given .1) (c .before .before .numbers-at .ensures)
@@ -39,7 +45,8 @@ enum-told c = search needs
 returns : tie.Need-returns
 returns c =
     let a = c .before .before .before .before .args in
-    split-refused (subst (ToldPosition (a .text .now) (a .at)) (c .enum-told .given .1) (c .before .before .position-at .ensures))
+    split-refused
+    (subst (ToldPosition (a .text .now) (a .at)) (c .enum-told .given .1) (c .before .before .position-at .ensures))
 
 slice-aggregate-word-end : tie.Need-slice-aggregate-word-end
 slice-aggregate-word-end c = search needs
@@ -56,7 +63,8 @@ enum-told-2 c = search needs
 returns-2 : tie.Need-returns-2
 returns-2 c =
     let a = c .before .before .before .before .before .before .before .before .before .args in
-    split-unmarked (position (c .before .before .before .before .before)) (subst (ToldWord (bytes " -> ") (a .text .now) (c .before .before .before .before .before .name .given .0 .1 .1 .1 .0)) (c .enum-told2 .given .1) (c .before .before .word-end .ensures))
+    split-unmarked (position (c .before .before .before .before .before))
+    (subst (ToldWord (bytes " -> ") (a .text .now) (c .before .before .before .before .before .name .given .0 .1 .1 .1 .0)) (c .enum-told2 .given .1) (c .before .before .word-end .ensures))
 
 numbers-at-requires : tie.Need-numbers-at-requires
 numbers-at-requires c κs = (arrow (c .before) .within, omega arith)
@@ -70,7 +78,8 @@ enum-told-3 c = search needs
 returns-3 : tie.Need-returns-3
 returns-3 c =
     let a = c .before .before .before .before .before .before .before .before .before .before .before .before .before .args in
-    split-unnamed (position (c .before .before .before .before .before .before .before .before .before)) (arrow (c .before .before .before .before)) (subst (ToldNumbers (separated 44 (readRanged 1 65535)) (a .text .now) (c .before .before .before .before .start .given .0 .0)) (c .enum-told3 .given .1) (c .before .before .numbers-at .ensures))
+    split-unnamed (position (c .before .before .before .before .before .before .before .before .before)) (arrow (c .before .before .before .before))
+    (subst (ToldNumbers (separated 44 (readRanged 1 65535)) (a .text .now) (c .before .before .before .before .start .given .0 .0)) (c .enum-told3 .given .1) (c .before .before .numbers-at .ensures))
 
 slice-aggregate-word-end-2 : tie.Need-slice-aggregate-word-end-2
 slice-aggregate-word-end-2 c = search needs
@@ -87,12 +96,14 @@ enum-told-4 c = search needs
 returns-4 : tie.Need-returns-4
 returns-4 c =
     let a = c .before .before .before .before .before .before .before .before .before .before .before .before .before .before .before .before .before .before .args in
-    split-open (position (c .before .before .before .before .before .before .before .before .before .before .before .before .before .before)) (arrow (c .before .before .before .before .before .before .before .before .before)) (listed (c .before .before .before .before .before)) (subst (ToldWord (bytes "\n") (a .text .now) (c .before .before .before .before .before .names .given .0 .1 .1 .0)) (c .enum-told4 .given .1) (c .before .before .word-end2 .ensures))
+    split-open (position (c .before .before .before .before .before .before .before .before .before .before .before .before .before .before)) (arrow (c .before .before .before .before .before .before .before .before .before)) (listed (c .before .before .before .before .before))
+    (subst (ToldWord (bytes "\n") (a .text .now) (c .before .before .before .before .before .names .given .0 .1 .1 .0)) (c .enum-told4 .given .1) (c .before .before .word-end2 .ensures))
 
 returns-5 : tie.Need-returns-5
 returns-5 c =
     let a = c .before .before .before .before .before .before .before .before .before .before .before .before .before .before .before .before .before .before .before .args in
-    split-found (position (c .before .before .before .before .before .before .before .before .before .before .before .before .before .before .before)) (arrow (c .before .before .before .before .before .before .before .before .before .before)) (listed (c .before .before .before .before .before .before)) (subst (ToldWord (bytes "\n") (a .text .now) (c .before .before .before .before .before .before .names .given .0 .1 .1 .0)) (c .before .end .given .1) (c .before .before .before .word-end2 .ensures))
+    split-found (position (c .before .before .before .before .before .before .before .before .before .before .before .before .before .before .before)) (arrow (c .before .before .before .before .before .before .before .before .before .before)) (listed (c .before .before .before .before .before .before))
+    (subst (ToldWord (bytes "\n") (a .text .now) (c .before .before .before .before .before .before .names .given .0 .1 .1 .0)) (c .before .end .given .1) (c .before .before .before .word-end2 .ensures))
 
 pub split-at-spec : {M : Type 1} → statement M
 split-at-spec =

@@ -1,7 +1,7 @@
 -- `rule_line::word_end` tells where a word ends that stands at a place.
 -- Assumes nothing.
 use borrow.Author.Needs.{needs}
-use mathlib.Core.Path.{_≡_, sym, _∙_}
+use mathlib.Core.Path.{sym, _∙_}
 use Rattle.text.proofs.Found.{word-found}
 use Rattle.text.proofs.rule_line.word_end.Statement.{statement}
 use Rattle.text.proofs.rule_line.word_end.Tie as tie
