@@ -19,3 +19,5 @@ pub mod Instantiated
 pub mod ClauseText
 pub mod NameTable
 pub mod Variables
+pub mod Clauses
+pub mod GroundTable

@@ -9,3 +9,4 @@ pub mod Cursor
 pub mod Instances
 pub mod ClauseText
 pub mod NameTable
+pub mod Clauses

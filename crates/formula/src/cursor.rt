@@ -1,9 +1,10 @@
 // Printing with a cursor: each byte is counted, compared with a claim, and stored only if asked.
 use text::number::put;
 ghost use mathlib.Core.Path.{_≡_};
+ghost use mathlib.Core.List.{[], _∷_};
 ghost use mathlib.Core.Bool.{cond};
 ghost use lib.ListN.{set, drop};
-ghost use Rattle.formula.specs.memory.Cursor.{counted, firstIs, cursorAfter, emitted, printed};
+ghost use Rattle.formula.specs.memory.Cursor.{counted, firstIs, cursorAfter, Prints};
 
 // Larger than every text: from here on bytes and lines are not counted.
 const COUNTLESS: usize = 1000000000;
@@ -78,7 +79,7 @@ fn moved(cursor: Cursor, b: u8, claim: &[u8]) -> Cursor
 
 // One byte more.
 pub fn emit(cursor: Cursor, b: u8, claim: &[u8], store: bool, out: &mut [u8]) -> Cursor
-    ensures { λ r. ⌜ (r, now (out .exit)) ≡ emitted (now (claim .entry)) store (cursor, now (out .entry)) b ⌝ }
+    ensures { λ r. ⌜ Prints (now (claim .entry)) store (cursor, now (out .entry)) (b ∷ []) (r, now (out .exit)) ⌝ }
 {
     put_if(store, out, cursor.length, b);
     moved(cursor, b, claim)
@@ -86,7 +87,7 @@ pub fn emit(cursor: Cursor, b: u8, claim: &[u8], store: bool, out: &mut [u8]) ->
 
 // All the bytes of a slice.
 pub fn emit_all(bytes: &[u8], cursor: Cursor, claim: &[u8], store: bool, out: &mut [u8]) -> Cursor
-    ensures { λ r. ⌜ (r, now (out .exit)) ≡ printed (now (claim .entry)) store (cursor, now (out .entry)) (now (bytes .entry)) ⌝ }
+    ensures { λ r. ⌜ Prints (now (claim .entry)) store (cursor, now (out .entry)) (now (bytes .entry)) (r, now (out .exit)) ⌝ }
 {
     let mut last = cursor;
     let mut i: usize = 0;

@@ -1,4 +1,5 @@
 // Formulas: their text and reading, their meaning, and the rules on them.
+pub mod clause;
 pub mod cursor;
 pub mod guard;
 pub mod instance;

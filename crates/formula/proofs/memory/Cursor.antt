@@ -11,10 +11,10 @@ use borrow.Author.Tests.{eq-eqb, ne-eqb, eqb-true, eqb-false}
 use lib.Dec.{eqb}
 use lib.ListN.{length, getD, drop, set, drop-of-length-le}
 use lib.Seq.{sets, drop-cons, drop-drop}
-use Rattle.text.specs.Bytes.{Bytes, same}
+use Rattle.text.specs.Bytes.{Bytes, same, followed, joined}
 use Rattle.text.specs.Lines.{isLF}
 use Rattle.formula.specs.declared.cursor.Cursor.{Cursor}
-use Rattle.formula.specs.memory.Cursor.{countless, counted, firstIs, agreesAfter, lineAfter, cursorAfter, firstCursor, Print, emitted, printed}
+use Rattle.formula.specs.memory.Cursor.{countless, counted, firstIs, agreesAfter, lineAfter, cursorAfter, firstCursor, Print, emitted, printed, Prints}
 
 -- One byte.
 
@@ -53,35 +53,61 @@ agrees-here claim cursor b here e h = ap₂ _&&_ e h
 -- Texts.
 
 module _ (claim : Bytes) (store : Bool) where
-  pub printed-nothing : (p : Print) → printed claim store p [] ≡ p
-  unfolding printed
-  printed-nothing p = refl
-
-  pub printed-one : (p : Print) (b : ℕ) → printed claim store p (b ∷ []) ≡ emitted claim store p b
-  unfolding printed
-  printed-one p b = refl
-
-  pub printed-first : (p : Print) (b : ℕ) (s : Bytes) → printed claim store p (b ∷ s) ≡ printed claim store (emitted claim store p b) s
-  unfolding printed
-  printed-first p b s = refl
-
-  pub printed-append : (p : Print) (s t : Bytes) → printed claim store p (s ++ t) ≡ printed claim store (printed claim store p s) t
+  printed-append : (p : Print) (s t : Bytes) → printed claim store p (s ++ t) ≡ printed claim store (printed claim store p s) t
   unfolding printed
   printed-append p [] t = refl
   printed-append p (b ∷ s) t = printed-append (emitted claim store p b) s t
 
-  -- the bytes of a slice, from a place on
-  pub printed-turn : (p : Print) (s : Bytes) (i : ℕ) → i < length s
-      → printed claim store p (drop i s) ≡ printed claim store (emitted claim store p (getD s i 0)) (drop (i + 1) s)
-  printed-turn p s i h = rw (add-one i, drop-cons s i 0 h) (printed-first p (getD s i 0) (drop (suc i) s))
+  pub print-one : (cursor last : Cursor) (old new : List ℕ) (b : ℕ)
+      → last ≡ cursorAfter claim cursor b → new ≡ cond store (set old (cursor .length) b) old → Prints claim store (cursor, old) (b ∷ []) (last, new)
+  unfolding printed emitted
+  print-one cursor last old new b e h = record { is = ap₂ (λ (x : Cursor) (y : List ℕ). (x, y)) e h }
 
-  pub printed-end : (p : Print) (s : Bytes) (i : ℕ) → length s ≤ i → printed claim store p (drop i s) ≡ p
-  printed-end p s i h = rw (drop-of-length-le s h) (printed-nothing p)
+-- One text after another.
+module _ {claim : Bytes} {store : Bool} {p q r : Print} where
+  pub print-then : {s t : Bytes} → Prints claim store p s q → Prints claim store q t r → Prints claim store p (s ++ t) r
+  print-then {s} {t} e f = record { is = f .is ∙ ap (λ (x : Print). printed claim store x t) (e .is) ∙ sym (printed-append claim store p s t) }
 
-  pub emitted-both : (cursor last : Cursor) (old new : List ℕ) (b : ℕ)
-      → last ≡ cursorAfter claim cursor b → new ≡ cond store (set old (cursor .length) b) old → (last, new) ≡ emitted claim store (cursor, old) b
-  unfolding emitted
-  emitted-both cursor last old new b e h = ap₂ (λ (x : Cursor) (y : List ℕ). (x, y)) e h
+-- The same text in other words.
+pub print-as : {claim : Bytes} {store : Bool} {p q : Print} {s w : Bytes} → w ≡ s → Prints claim store p s q → Prints claim store p w q
+print-as {claim} {store} {p} e f = record { is = f .is ∙ ap (printed claim store p) (sym e) }
+
+pub print-nothing : {claim : Bytes} {store : Bool} {p : Print} {w : Bytes} → w ≡ [] → Prints claim store p w p
+unfolding printed
+print-nothing e = record { is = rw e }
+
+-- the bytes of a slice from a place on
+pub from-byte : (s : Bytes) (i : ℕ) → i < length s → drop i s ≡ (getD s i 0 ∷ []) ++ drop (i + 1) s
+from-byte s i h = rw (add-one i) (drop-cons s i 0 h)
+
+-- Of a whole text from p on, a rest is still to be printed from q on.
+pub record Remains (claim : Bytes) (store : Bool) (p : Print) (whole : Bytes) (q : Print) (rest : Bytes) : Type 0 where
+  pub is : printed claim store p whole ≡ printed claim store q rest
+
+pub remains-all : {claim : Bytes} {store : Bool} {p : Print} {whole : Bytes} → Remains claim store p whole p whole
+remains-all = record { is = refl }
+
+module _ {claim : Bytes} {store : Bool} {p q : Print} {whole rest : Bytes} (so : Remains claim store p whole q rest) where
+  pub remains-nothing : rest ≡ [] → Prints claim store p whole q
+  unfolding printed
+  remains-nothing e = record { is = sym (so .is ∙ ap (printed claim store q) e) }
+
+  pub remains-then : {r : Print} {s t : Bytes} → rest ≡ s ++ t → Prints claim store q s r → Remains claim store p whole r t
+  remains-then {r} {s} {t} e f =
+      record { is = so .is ∙ ap (printed claim store q) e ∙ printed-append claim store q s t ∙ ap (λ (x : Print). printed claim store x t) (sym (f .is)) }
+
+-- Texts with commas between them: the first, one more, and no more.
+module _ {claim : Bytes} {store : Bool} {p q : Print} where
+  pub remains-first : {w : Bytes} {ws vs : List Bytes} → vs ≡ w ∷ ws → Prints claim store p w q → Remains claim store p (joined 44 vs) q (followed 44 ws)
+  remains-first e f = remains-then remains-all (ap (joined 44) e) f
+
+  module _ {whole : Bytes} {vs : List Bytes} (so : Remains claim store p whole q (followed 44 vs)) where
+    pub remains-next : {o r : Print} {w : Bytes} {ws : List Bytes} → vs ≡ w ∷ ws → Prints claim store q (44 ∷ []) o → Prints claim store o w r
+        → Remains claim store p whole r (followed 44 ws)
+    remains-next e f g = remains-then so (ap (followed 44) e) (print-then f g)
+
+    pub remains-last : vs ≡ [] → Prints claim store p whole q
+    remains-last e = remains-nothing so (ap (followed 44) e)
 
 -- Whole texts: what the cursor tells behind them, and what is stored.
 

@@ -1,5 +1,6 @@
 -- Printing with a cursor: bytes are counted, compared with a claim, and stored only if asked.
 use Prim.Native.Nat.{ℕ, _+_, min}
+use mathlib.Core.Path.{_≡_}
 use mathlib.Core.List.{List, [], _∷_}
 use mathlib.Core.Bool.{Bool, true, false, cond, _&&_}
 use lib.Dec.{eqb}
@@ -51,3 +52,7 @@ module _ (claim : Bytes) (store : Bool) where
   unfoldable pub printed : Print → Bytes → Print
   printed p [] = p
   printed p (b ∷ s) = printed (emitted p b) s
+
+-- a text leads from one print to another
+pub record Prints (claim : Bytes) (store : Bool) (p : Print) (text : Bytes) (q : Print) : Type 0 where
+  pub is : q ≡ printed claim store p text

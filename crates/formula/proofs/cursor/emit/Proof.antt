@@ -1,7 +1,7 @@
 -- `cursor::emit` stores a byte and moves the cursor.
 -- Assumes nothing.
 use borrow.Author.Needs.{needs}
-use Rattle.formula.proofs.memory.Cursor.{emitted-both}
+use Rattle.formula.proofs.memory.Cursor.{print-one}
 use Rattle.formula.proofs.cursor.emit.Statement.{statement}
 use Rattle.formula.proofs.cursor.emit.Tie as tie
 
@@ -17,7 +17,7 @@ same-length c = search needs
 returns : tie.Need-returns
 returns c =
     let a = c .before .before .before .before .before .before .before .args in
-    emitted-both (a .claim .now) (a .store) (a .cursor) _ (a .out .now) _ (a .b) (c .moved .ensures) (c .before .before .before .put-if .ensures)
+    print-one (a .claim .now) (a .store) (a .cursor) _ (a .out .now) _ (a .b) (c .moved .ensures) (c .before .before .before .put-if .ensures)
 
 pub emit-spec : {M : Type 1} → statement M
 emit-spec = tie.close (tie.spec put-if-requires moved-requires same-length returns)

@@ -1,0 +1,336 @@
+-- `clause::is_clause_at` goes by the word's kind, `clause::is_connective_clause` by the connective, and `clause::are_clauses_at` through the parts up to the
+-- first that is no clause. The measure is three times the levels, one more for parts and two more for a connective.
+-- Assumes nothing.
+use borrow.Author.Needs.{needs}
+use native.Mathlib.Omega.{arith}
+use Prim.Native.Nat.{_+_, _-_, _*_, _≤_}
+use mathlib.Core.Path.{_≡_, refl, sym, ap, _∙_}
+use borrow.Author.Tests.{not-true, not-false}
+use lib.ListN.{length, drop}
+use Rattle.formula.specs.memory.Clauses.{allAt, clauseAt}
+use Rattle.formula.proofs.memory.Clauses.{all-none, all-more, all-stop, negation-other, negation-one, junction-all, junction-none, junction-some, connective-never, clause-no-level, clause-beyond, clause-kind}
+use Prim.Native.Nat.{ℕ, _<_}
+use borrow.Fn.Kinds.{In}
+use borrow.Fn.PlainCycle.{Measures, is, falls, and}
+use Rattle.formula.proofs.clause.are_clauses_at.Reads as are-clauses-at
+use Rattle.formula.proofs.clause.are_clauses_at.Kinds as are-clauses-at-kinds
+use Rattle.formula.proofs.clause.+are_clauses_at+is_clause_at+is_connective_clause.Lts-are_clauses_at as are-clauses-at-lts
+use Rattle.formula.proofs.clause.is_clause_at.Reads as is-clause-at
+use Rattle.formula.proofs.clause.is_clause_at.Kinds as is-clause-at-kinds
+use Rattle.formula.proofs.clause.+are_clauses_at+is_clause_at+is_connective_clause.Lts-is_clause_at as is-clause-at-lts
+use Rattle.formula.proofs.clause.is_connective_clause.Reads as is-connective-clause
+use Rattle.formula.proofs.clause.is_connective_clause.Kinds as is-connective-clause-kinds
+use Rattle.formula.proofs.clause.+are_clauses_at+is_clause_at+is_connective_clause.Lts-is_connective_clause as is-connective-clause-lts
+use Rattle.formula.proofs.clause.is_ground.Reads as is-ground-reads
+use Rattle.formula.proofs.clause.is_ground_atom_at.Reads as is-ground-atom-at-reads
+use Rattle.formula.proofs.walk.past.Reads as past-reads
+use Rattle.formula.proofs.word.kind_of.Reads as kind-of-reads
+use Rattle.formula.proofs.clause.+are_clauses_at+is_clause_at+is_connective_clause.{statement}
+use Rattle.formula.proofs.clause.+are_clauses_at+is_clause_at+is_connective_clause.Tie.{close}
+
+abbrev μ-are-clauses-at : Measures 1 are-clauses-at-kinds.ps ℕ
+μ-are-clauses-at κs a = 3 * a .1 .1 .0 + 1
+
+abbrev μ-is-clause-at : Measures 1 is-clause-at-kinds.ps ℕ
+μ-is-clause-at κs a = 3 * a .1 .1 .0
+
+abbrev μ-is-connective-clause : Measures 1 is-connective-clause-kinds.ps ℕ
+μ-is-connective-clause κs a = 3 * a .1 .1 .0 + 2
+
+abbrev are-clauses-at-at : ℕ → In 1 are-clauses-at-kinds.ps
+are-clauses-at-at t =
+    and
+    1
+    are-clauses-at-kinds.ps
+    (is 1 are-clauses-at-kinds.ps μ-are-clauses-at t)
+    are-clauses-at.Pre
+
+abbrev are-clauses-at-below : ℕ → In 1 are-clauses-at-kinds.ps
+are-clauses-at-below t =
+    and
+    1
+    are-clauses-at-kinds.ps
+    (falls 1 are-clauses-at-kinds.ps _<_ μ-are-clauses-at t)
+    are-clauses-at.Pre
+
+abbrev is-clause-at-at : ℕ → In 1 is-clause-at-kinds.ps
+is-clause-at-at t =
+    and 1 is-clause-at-kinds.ps (is 1 is-clause-at-kinds.ps μ-is-clause-at t) is-clause-at.Pre
+
+abbrev is-clause-at-below : ℕ → In 1 is-clause-at-kinds.ps
+is-clause-at-below t =
+    and
+    1
+    is-clause-at-kinds.ps
+    (falls 1 is-clause-at-kinds.ps _<_ μ-is-clause-at t)
+    is-clause-at.Pre
+
+abbrev is-connective-clause-at : ℕ → In 1 is-connective-clause-kinds.ps
+is-connective-clause-at t =
+    and
+    1
+    is-connective-clause-kinds.ps
+    (is 1 is-connective-clause-kinds.ps μ-is-connective-clause t)
+    is-connective-clause.Pre
+
+abbrev is-connective-clause-below : ℕ → In 1 is-connective-clause-kinds.ps
+is-connective-clause-below t =
+    and
+    1
+    is-connective-clause-kinds.ps
+    (falls 1 is-connective-clause-kinds.ps _<_ μ-is-connective-clause t)
+    is-connective-clause.Pre
+
+abbrev are-clauses-at-Inv-loop : are-clauses-at-lts.InvT-loop
+are-clauses-at-Inv-loop work at levels count table i₀ pending₀ i pending =
+    (i ≤ length work) × (allAt (clauseAt table levels) count (drop at work) ≡ allAt (clauseAt table levels) pending (drop i work))
+
+abbrev are-clauses-at-μ-loop : are-clauses-at-lts.MeasureT-loop
+are-clauses-at-μ-loop work at levels count table i₀ pending₀ i pending = pending
+
+-- what are-clauses-at is told of what it calls, at the measure t
+abbrev are-clauses-at-calls : ℕ → are-clauses-at-lts.Claims
+are-clauses-at-calls t = (is-clause-at-below t, is-clause-at.Post, past-reads.Asked, past-reads.Learnt)
+
+-- what is-clause-at is told of what it calls, at the measure t
+abbrev is-clause-at-calls : ℕ → is-clause-at-lts.Claims
+is-clause-at-calls t = (kind-of-reads.Asked, kind-of-reads.Learnt, is-ground-reads.Asked, is-ground-reads.Learnt, is-connective-clause-below t, is-connective-clause.Post)
+
+-- what is-connective-clause is told of what it calls, at the measure t
+abbrev is-connective-clause-calls : ℕ → is-connective-clause-lts.Claims
+is-connective-clause-calls t = (is-ground-atom-at-reads.Asked, is-ground-atom-at-reads.Learnt, are-clauses-at-below t, are-clauses-at.Post)
+
+are-clauses-at-loop-holds : (t : ℕ) → are-clauses-at-lts.Need-loop-holds (are-clauses-at-calls t) (are-clauses-at-at t) are-clauses-at.Post are-clauses-at-Inv-loop are-clauses-at-μ-loop
+are-clauses-at-loop-holds t c = (omega arith, refl)
+
+are-clauses-at-is-clause-at-requires : (t : ℕ) → are-clauses-at-lts.Need-is-clause-at-requires (are-clauses-at-calls t) (are-clauses-at-at t) are-clauses-at.Post are-clauses-at-Inv-loop are-clauses-at-μ-loop
+are-clauses-at-is-clause-at-requires t c κs = search needs
+
+are-clauses-at-returns : (t : ℕ) → are-clauses-at-lts.Need-returns (are-clauses-at-calls t) (are-clauses-at-at t) are-clauses-at.Post are-clauses-at-Inv-loop are-clauses-at-μ-loop
+are-clauses-at-returns t c =
+    let a = c .before .before .before .before .before .args in
+    let l = c .before .before .before .loop in
+    sym (l .inv .1 ∙ all-stop (a .work .now) (l .i) (l .pending) (c .before .before .loop-test .taken) (clauseAt (a .table) (a .levels)) (sym (c .before .is-clause-at .ensures) ∙ not-true _ (c .if1 .taken)))
+
+are-clauses-at-past-requires : (t : ℕ) → are-clauses-at-lts.Need-past-requires (are-clauses-at-calls t) (are-clauses-at-at t) are-clauses-at.Post are-clauses-at-Inv-loop are-clauses-at-μ-loop
+are-clauses-at-past-requires t c κs = search needs
+
+are-clauses-at-sub-pending : (t : ℕ) → are-clauses-at-lts.Need-sub-pending (are-clauses-at-calls t) (are-clauses-at-at t) are-clauses-at.Post are-clauses-at-Inv-loop are-clauses-at-μ-loop
+are-clauses-at-sub-pending t c = search needs
+
+are-clauses-at-loop-less : (t : ℕ) → are-clauses-at-lts.Need-loop-less (are-clauses-at-calls t) (are-clauses-at-at t) are-clauses-at.Post are-clauses-at-Inv-loop are-clauses-at-μ-loop
+are-clauses-at-loop-less t c = search needs
+
+are-clauses-at-loop-again : (t : ℕ) → are-clauses-at-lts.Need-loop-again (are-clauses-at-calls t) (are-clauses-at-at t) are-clauses-at.Post are-clauses-at-Inv-loop are-clauses-at-μ-loop
+are-clauses-at-loop-again t c =
+    let a = c .before .before .before .before .before .before .args in
+    let l = c .before .before .before .before .loop in
+    let t = clauseAt (a .table) (a .levels) in (
+      c .past .ensures .1,
+      l .inv .1 ∙ all-more (a .work .now) (l .i) (l .pending) (c .before .before .before .loop-test .taken) t (sym (c .before .before .is-clause-at .ensures) ∙ not-false _ (c .before .if1 .left))
+          ∙ ap (λ (j : ℕ). allAt t (l .pending - 1) (drop j (a .work .now))) (sym (c .past .ensures .0)),
+    )
+
+are-clauses-at-returns-2 : (t : ℕ) → are-clauses-at-lts.Need-returns-2 (are-clauses-at-calls t) (are-clauses-at-at t) are-clauses-at.Post are-clauses-at-Inv-loop are-clauses-at-μ-loop
+are-clauses-at-returns-2 t c =
+    let a = c .before .before .before .args in
+    let l = c .before .loop in
+    sym (l .inv .1 ∙ all-none (clauseAt (a .table) (a .levels)) (l .pending) (drop (l .i) (a .work .now)) (omega arith))
+
+is-clause-at-returns : (t : ℕ) → is-clause-at-lts.Need-returns (is-clause-at-calls t) (is-clause-at-at t) is-clause-at.Post
+is-clause-at-returns t c =
+    let a = c .before .before .args in
+    clause-no-level (a .table) (a .work .now) (a .at) (a .levels) (c .if1 .taken)
+
+is-clause-at-returns-2 : (t : ℕ) → is-clause-at-lts.Need-returns-2 (is-clause-at-calls t) (is-clause-at-at t) is-clause-at.Post
+is-clause-at-returns-2 t c =
+    let a = c .before .before .before .args in
+    clause-beyond (a .table) (a .work .now) (a .at) (a .levels) (c .if2 .taken)
+
+is-clause-at-add-next : (t : ℕ) → is-clause-at-lts.Need-add-next (is-clause-at-calls t) (is-clause-at-at t) is-clause-at.Post
+is-clause-at-add-next t c = search needs
+
+is-clause-at-mul-kind-of : (t : ℕ) → is-clause-at-lts.Need-mul-kind-of (is-clause-at-calls t) (is-clause-at-at t) is-clause-at.Post
+is-clause-at-mul-kind-of t c = search needs
+
+is-clause-at-shared-slice-read-kind-of : (t : ℕ) → is-clause-at-lts.Need-shared-slice-read-kind-of (is-clause-at-calls t) (is-clause-at-at t) is-clause-at.Post
+is-clause-at-shared-slice-read-kind-of t c = search needs
+
+is-clause-at-kind-of-requires : (t : ℕ) → is-clause-at-lts.Need-kind-of-requires (is-clause-at-calls t) (is-clause-at-at t) is-clause-at.Post
+is-clause-at-kind-of-requires t c κs = search needs
+
+is-clause-at-enum-told : (t : ℕ) → is-clause-at-lts.Need-enum-told (is-clause-at-calls t) (is-clause-at-at t) is-clause-at.Post
+is-clause-at-enum-told t c = search needs
+
+is-clause-at-enum-known-predicate : (t : ℕ) → is-clause-at-lts.Need-enum-known-predicate (is-clause-at-calls t) (is-clause-at-at t) is-clause-at.Post
+is-clause-at-enum-known-predicate t c = search needs
+
+is-clause-at-is-ground-requires : (t : ℕ) → is-clause-at-lts.Need-is-ground-requires (is-clause-at-calls t) (is-clause-at-at t) is-clause-at.Post
+is-clause-at-is-ground-requires t c κs = search needs
+
+is-clause-at-enum-told-2 : (t : ℕ) → is-clause-at-lts.Need-enum-told-2 (is-clause-at-calls t) (is-clause-at-at t) is-clause-at.Post
+is-clause-at-enum-told-2 t c = search needs
+
+is-clause-at-enum-known-sign : (t : ℕ) → is-clause-at-lts.Need-enum-known-sign (is-clause-at-calls t) (is-clause-at-at t) is-clause-at.Post
+is-clause-at-enum-known-sign t c = search needs
+
+is-clause-at-sub-is-connective-clause : (t : ℕ) → is-clause-at-lts.Need-sub-is-connective-clause (is-clause-at-calls t) (is-clause-at-at t) is-clause-at.Post
+is-clause-at-sub-is-connective-clause t c = search needs
+
+is-clause-at-is-connective-clause-requires : (t : ℕ) → is-clause-at-lts.Need-is-connective-clause-requires (is-clause-at-calls t) (is-clause-at-at t) is-clause-at.Post
+is-clause-at-is-connective-clause-requires t c κs = search needs
+
+is-clause-at-enum-told-3 : (t : ℕ) → is-clause-at-lts.Need-enum-told-3 (is-clause-at-calls t) (is-clause-at-at t) is-clause-at.Post
+is-clause-at-enum-told-3 t c = search needs
+
+is-clause-at-enum-told-4 : (t : ℕ) → is-clause-at-lts.Need-enum-told-4 (is-clause-at-calls t) (is-clause-at-at t) is-clause-at.Post
+is-clause-at-enum-told-4 t c = search needs
+
+is-clause-at-returns-3 : (t : ℕ) → is-clause-at-lts.Need-returns-3 (is-clause-at-calls t) (is-clause-at-at t) is-clause-at.Post
+is-clause-at-returns-3 t c =
+    let a = c .before .before .before .before .before .before .before .args in
+    sym (clause-kind (a .table) (a .work .now) (a .at) (a .levels) _ (c .before .before .before .before .before .if1 .left) (c .before .before .before .before .if2 .left) (sym (c .before .before .kind-of .ensures) ∙ c .enum-told .given .1))
+
+is-clause-at-returns-4 : (t : ℕ) → is-clause-at-lts.Need-returns-4 (is-clause-at-calls t) (is-clause-at-at t) is-clause-at.Post
+is-clause-at-returns-4 t c =
+    let a = c .before .before .before .before .before .before .before .before .before .args in
+    c .is-ground .ensures ∙ sym (clause-kind (a .table) (a .work .now) (a .at) (a .levels) _ (c .before .before .before .before .before .before .before .if1 .left) (c .before .before .before .before .before .before .if2 .left) (sym (c .before .before .before .before .kind-of .ensures) ∙ c .before .before .predicate .given .1))
+
+is-clause-at-returns-5 : (t : ℕ) → is-clause-at-lts.Need-returns-5 (is-clause-at-calls t) (is-clause-at-at t) is-clause-at.Post
+is-clause-at-returns-5 t c =
+    let a = c .before .before .before .before .before .before .before .args in
+    sym (clause-kind (a .table) (a .work .now) (a .at) (a .levels) _ (c .before .before .before .before .before .if1 .left) (c .before .before .before .before .if2 .left) (sym (c .before .before .kind-of .ensures) ∙ c .enum-told2 .given .1))
+
+is-clause-at-returns-6 : (t : ℕ) → is-clause-at-lts.Need-returns-6 (is-clause-at-calls t) (is-clause-at-at t) is-clause-at.Post
+is-clause-at-returns-6 t c =
+    let a = c .before .before .before .before .before .before .before .before .before .args in
+    c .is-connective-clause .ensures ∙ sym (clause-kind (a .table) (a .work .now) (a .at) (a .levels) _ (c .before .before .before .before .before .before .before .if1 .left) (c .before .before .before .before .before .before .if2 .left) (sym (c .before .before .before .before .kind-of .ensures) ∙ c .before .before .sign .given .1))
+
+is-clause-at-returns-7 : (t : ℕ) → is-clause-at-lts.Need-returns-7 (is-clause-at-calls t) (is-clause-at-at t) is-clause-at.Post
+is-clause-at-returns-7 t c =
+    let a = c .before .before .before .before .before .before .before .args in
+    sym (clause-kind (a .table) (a .work .now) (a .at) (a .levels) _ (c .before .before .before .before .before .if1 .left) (c .before .before .before .before .if2 .left) (sym (c .before .before .kind-of .ensures) ∙ c .enum-told3 .given .1))
+
+is-clause-at-returns-8 : (t : ℕ) → is-clause-at-lts.Need-returns-8 (is-clause-at-calls t) (is-clause-at-at t) is-clause-at.Post
+is-clause-at-returns-8 t c =
+    let a = c .before .before .before .before .before .before .before .args in
+    sym (clause-kind (a .table) (a .work .now) (a .at) (a .levels) _ (c .before .before .before .before .before .if1 .left) (c .before .before .before .before .if2 .left) (sym (c .before .before .kind-of .ensures) ∙ c .enum-told4 .given .1))
+
+is-connective-clause-enum-told : (t : ℕ) → is-connective-clause-lts.Need-enum-told (is-connective-clause-calls t) (is-connective-clause-at t) is-connective-clause.Post
+is-connective-clause-enum-told t c = search needs
+
+is-connective-clause-returns : (t : ℕ) → is-connective-clause-lts.Need-returns (is-connective-clause-calls t) (is-connective-clause-at t) is-connective-clause.Post
+is-connective-clause-returns t c =
+    let a = c .before .before .before .before .args in
+    negation-other (a .table) (clauseAt (a .table) (a .levels)) _ (a .count) (drop (a .at) (a .work .now)) (c .before .enum-told .given .1) (c .if1 .taken)
+
+is-connective-clause-is-ground-atom-at-requires : (t : ℕ) → is-connective-clause-lts.Need-is-ground-atom-at-requires (is-connective-clause-calls t) (is-connective-clause-at t) is-connective-clause.Post
+is-connective-clause-is-ground-atom-at-requires t c κs = search needs
+
+is-connective-clause-enum-told-2 : (t : ℕ) → is-connective-clause-lts.Need-enum-told-2 (is-connective-clause-calls t) (is-connective-clause-at t) is-connective-clause.Post
+is-connective-clause-enum-told-2 t c = search needs
+
+is-connective-clause-enum-told-3 : (t : ℕ) → is-connective-clause-lts.Need-enum-told-3 (is-connective-clause-calls t) (is-connective-clause-at t) is-connective-clause.Post
+is-connective-clause-enum-told-3 t c = search needs
+
+is-connective-clause-enum-told-4 : (t : ℕ) → is-connective-clause-lts.Need-enum-told-4 (is-connective-clause-calls t) (is-connective-clause-at t) is-connective-clause.Post
+is-connective-clause-enum-told-4 t c = search needs
+
+is-connective-clause-enum-known-sign : (t : ℕ) → is-connective-clause-lts.Need-enum-known-sign (is-connective-clause-calls t) (is-connective-clause-at t) is-connective-clause.Post
+is-connective-clause-enum-known-sign t c = search needs
+
+is-connective-clause-returns-2 : (t : ℕ) → is-connective-clause-lts.Need-returns-2 (is-connective-clause-calls t) (is-connective-clause-at t) is-connective-clause.Post
+is-connective-clause-returns-2 t c =
+    let a = c .before .before .before .before .before .args in
+    junction-all (a .table) (clauseAt (a .table) (a .levels)) _ (a .count) (drop (a .at) (a .work .now)) _ (c .before .before .sign .given .1) (c .if2 .taken)
+
+is-connective-clause-returns-3 : (t : ℕ) → is-connective-clause-lts.Need-returns-3 (is-connective-clause-calls t) (is-connective-clause-at t) is-connective-clause.Post
+is-connective-clause-returns-3 t c =
+    let a = c .before .before .before .before .before .before .args in
+    junction-none (a .table) (clauseAt (a .table) (a .levels)) _ (a .count) (drop (a .at) (a .work .now)) _ (c .before .before .before .sign .given .1) (c .before .if2 .left) (c .if3 .taken)
+
+is-connective-clause-are-clauses-at-requires : (t : ℕ) → is-connective-clause-lts.Need-are-clauses-at-requires (is-connective-clause-calls t) (is-connective-clause-at t) is-connective-clause.Post
+is-connective-clause-are-clauses-at-requires t c κs = search needs
+
+is-connective-clause-returns-4 : (t : ℕ) → is-connective-clause-lts.Need-returns-4 (is-connective-clause-calls t) (is-connective-clause-at t) is-connective-clause.Post
+is-connective-clause-returns-4 t c =
+    let a = c .before .before .before .before .before .args in
+    c .is-ground-atom-at .ensures ∙ negation-one (a .table) (clauseAt (a .table) (a .levels)) _ (a .count) (drop (a .at) (a .work .now)) (c .before .before .enum-told .given .1) (c .before .if1 .left)
+
+is-connective-clause-returns-5 : (t : ℕ) → is-connective-clause-lts.Need-returns-5 (is-connective-clause-calls t) (is-connective-clause-at t) is-connective-clause.Post
+is-connective-clause-returns-5 t c =
+    let a = c .before .before .before .args in
+    connective-never (a .table) (clauseAt (a .table) (a .levels)) (a .count) (drop (a .at) (a .work .now)) _ _ (c .enum-told2 .given .1) refl
+
+is-connective-clause-returns-6 : (t : ℕ) → is-connective-clause-lts.Need-returns-6 (is-connective-clause-calls t) (is-connective-clause-at t) is-connective-clause.Post
+is-connective-clause-returns-6 t c =
+    let a = c .before .before .before .args in
+    connective-never (a .table) (clauseAt (a .table) (a .levels)) (a .count) (drop (a .at) (a .work .now)) _ _ (c .enum-told3 .given .1) refl
+
+is-connective-clause-returns-7 : (t : ℕ) → is-connective-clause-lts.Need-returns-7 (is-connective-clause-calls t) (is-connective-clause-at t) is-connective-clause.Post
+is-connective-clause-returns-7 t c =
+    let a = c .before .before .before .args in
+    connective-never (a .table) (clauseAt (a .table) (a .levels)) (a .count) (drop (a .at) (a .work .now)) _ _ (c .enum-told4 .given .1) refl
+
+is-connective-clause-returns-8 : (t : ℕ) → is-connective-clause-lts.Need-returns-8 (is-connective-clause-calls t) (is-connective-clause-at t) is-connective-clause.Post
+is-connective-clause-returns-8 t c =
+    let a = c .before .before .before .before .before .before .before .args in
+    c .are-clauses-at .ensures ∙ junction-some (a .table) (clauseAt (a .table) (a .levels)) _ (a .count) (drop (a .at) (a .work .now)) _ (c .before .before .before .before .sign .given .1) (c .before .before .if2 .left) (c .before .if3 .left)
+
+pub +are-clauses-at+is-clause-at+is-connective-clause-spec : {M : Type 1} → statement M
++are-clauses-at+is-clause-at+is-connective-clause-spec =
+    close μ-are-clauses-at μ-is-clause-at μ-is-connective-clause (λ t. are-clauses-at-lts.spec (are-clauses-at-calls t)
+    (are-clauses-at-at t)
+    are-clauses-at.Post
+    are-clauses-at-Inv-loop
+    are-clauses-at-μ-loop
+    (are-clauses-at-loop-holds t)
+    (are-clauses-at-is-clause-at-requires t)
+    (are-clauses-at-returns t)
+    (are-clauses-at-past-requires t)
+    (are-clauses-at-sub-pending t)
+    (are-clauses-at-loop-less t)
+    (are-clauses-at-loop-again t)
+    (are-clauses-at-returns-2 t))
+    (λ t. is-clause-at-lts.spec (is-clause-at-calls t)
+    (is-clause-at-at t)
+    is-clause-at.Post
+    (is-clause-at-returns t)
+    (is-clause-at-returns-2 t)
+    (is-clause-at-add-next t)
+    (is-clause-at-mul-kind-of t)
+    (is-clause-at-shared-slice-read-kind-of t)
+    (is-clause-at-kind-of-requires t)
+    (is-clause-at-enum-told t)
+    (is-clause-at-enum-known-predicate t)
+    (is-clause-at-is-ground-requires t)
+    (is-clause-at-enum-told-2 t)
+    (is-clause-at-enum-known-sign t)
+    (is-clause-at-sub-is-connective-clause t)
+    (is-clause-at-is-connective-clause-requires t)
+    (is-clause-at-enum-told-3 t)
+    (is-clause-at-enum-told-4 t)
+    (is-clause-at-returns-3 t)
+    (is-clause-at-returns-4 t)
+    (is-clause-at-returns-5 t)
+    (is-clause-at-returns-6 t)
+    (is-clause-at-returns-7 t)
+    (is-clause-at-returns-8 t))
+    λ t. is-connective-clause-lts.spec (is-connective-clause-calls t)
+    (is-connective-clause-at t)
+    is-connective-clause.Post
+    (is-connective-clause-enum-told t)
+    (is-connective-clause-returns t)
+    (is-connective-clause-is-ground-atom-at-requires t)
+    (is-connective-clause-enum-told-2 t)
+    (is-connective-clause-enum-told-3 t)
+    (is-connective-clause-enum-told-4 t)
+    (is-connective-clause-enum-known-sign t)
+    (is-connective-clause-returns-2 t)
+    (is-connective-clause-returns-3 t)
+    (is-connective-clause-are-clauses-at-requires t)
+    (is-connective-clause-returns-4 t)
+    (is-connective-clause-returns-5 t)
+    (is-connective-clause-returns-6 t)
+    (is-connective-clause-returns-7 t)
+    (is-connective-clause-returns-8 t)

@@ -1,0 +1,88 @@
+-- `clause::is_ground_atom_at` looks at the word's kind: only an atom can be a ground atom.
+-- Assumes nothing.
+use borrow.Author.Needs.{needs}
+use mathlib.Core.Path.{sym, _∙_}
+use Rattle.formula.proofs.memory.Clauses.{ground-kind}
+use Rattle.formula.proofs.clause.is_ground_atom_at.Statement.{statement}
+use Rattle.formula.proofs.clause.is_ground_atom_at.Tie as tie
+
+peek-requires : tie.Need-peek-requires
+peek-requires c κs = search needs
+
+kind-of-requires : tie.Need-kind-of-requires
+kind-of-requires c κs = search needs
+
+enum-told : tie.Need-enum-told
+enum-told c = search needs
+
+enum-known-predicate : tie.Need-enum-known-predicate
+enum-known-predicate c = search needs
+
+add-is-ground : tie.Need-add-is-ground
+add-is-ground c = search needs
+
+is-ground-requires : tie.Need-is-ground-requires
+is-ground-requires c κs = search needs
+
+enum-told-2 : tie.Need-enum-told-2
+enum-told-2 c = search needs
+
+enum-told-3 : tie.Need-enum-told-3
+enum-told-3 c = search needs
+
+enum-told-4 : tie.Need-enum-told-4
+enum-told-4 c = search needs
+
+enum-told-5 : tie.Need-enum-told-5
+enum-told-5 c = search needs
+
+returns : tie.Need-returns
+returns c =
+    let a = c .before .before .before .before .before .args in
+    sym (ground-kind (a .table) (a .work .now) (a .at) _ _ _ (c .before .before .before .peek .ensures) (c .before .before .kind-of .ensures) (c .enum-told .given .1))
+
+returns-2 : tie.Need-returns-2
+returns-2 c =
+    let a = c .before .before .before .before .before .before .before .args in
+    c .is-ground .ensures ∙ sym (ground-kind (a .table) (a .work .now) (a .at) _ _ _ (c .before .before .before .before .before .peek .ensures) (c .before .before .before .before .kind-of .ensures) (c .before .before .predicate .given .1))
+
+returns-3 : tie.Need-returns-3
+returns-3 c =
+    let a = c .before .before .before .before .before .args in
+    sym (ground-kind (a .table) (a .work .now) (a .at) _ _ _ (c .before .before .before .peek .ensures) (c .before .before .kind-of .ensures) (c .enum-told2 .given .1))
+
+returns-4 : tie.Need-returns-4
+returns-4 c =
+    let a = c .before .before .before .before .before .args in
+    sym (ground-kind (a .table) (a .work .now) (a .at) _ _ _ (c .before .before .before .peek .ensures) (c .before .before .kind-of .ensures) (c .enum-told3 .given .1))
+
+returns-5 : tie.Need-returns-5
+returns-5 c =
+    let a = c .before .before .before .before .before .args in
+    sym (ground-kind (a .table) (a .work .now) (a .at) _ _ _ (c .before .before .before .peek .ensures) (c .before .before .kind-of .ensures) (c .enum-told4 .given .1))
+
+returns-6 : tie.Need-returns-6
+returns-6 c =
+    let a = c .before .before .before .before .before .args in
+    sym (ground-kind (a .table) (a .work .now) (a .at) _ _ _ (c .before .before .before .peek .ensures) (c .before .before .kind-of .ensures) (c .enum-told5 .given .1))
+
+pub is-ground-atom-at-spec : {M : Type 1} → statement M
+is-ground-atom-at-spec =
+    tie.close
+    (tie.spec
+    peek-requires
+    kind-of-requires
+    enum-told
+    enum-known-predicate
+    add-is-ground
+    is-ground-requires
+    enum-told-2
+    enum-told-3
+    enum-told-4
+    enum-told-5
+    returns
+    returns-2
+    returns-3
+    returns-4
+    returns-5
+    returns-6)

@@ -1,0 +1,208 @@
+-- `print::emit_clause` prints what stands before the parts, the parts, and what stands behind them; `print::emit_parts` the first part, and then each
+-- other behind a comma. The measure is twice the levels, and one more for parts. The loop's invariant: the parts from here on remain.
+-- Assumes nothing.
+use borrow.Author.Needs.{needs}
+use native.Mathlib.Omega.{arith}
+use Prim.Native.Nat.{_+_, _-_, _≤_}
+use mathlib.Core.Path.{_≡_, refl, sym, ap, _∙_}
+use lib.ListN.{length, drop}
+use Rattle.text.specs.Bytes.{joined, followed}
+use Rattle.formula.specs.memory.ClauseText.{partTexts, clauseText}
+use Rattle.formula.proofs.memory.Cursor.{Remains, remains-all, remains-next, remains-last, print-as, print-then, print-nothing}
+use Rattle.formula.proofs.memory.ClauseText.{parts-none, parts-more, clause-no-level, clause-beyond, clause-kind}
+use mathlib.Core.List.{_∷_}
+use Prim.Native.Nat.{ℕ, _<_}
+use borrow.Fn.Kinds.{In}
+use borrow.Fn.PlainCycle.{Measures, is, falls, and}
+use Rattle.formula.proofs.print.emit_clause.Reads as emit-clause
+use Rattle.formula.proofs.print.emit_clause.Kinds as emit-clause-kinds
+use Rattle.formula.proofs.print.+emit_clause+emit_parts.Lts-emit_clause as emit-clause-lts
+use Rattle.formula.proofs.print.emit_parts.Reads as emit-parts
+use Rattle.formula.proofs.print.emit_parts.Kinds as emit-parts-kinds
+use Rattle.formula.proofs.print.+emit_clause+emit_parts.Lts-emit_parts as emit-parts-lts
+use Rattle.formula.proofs.cursor.emit.Reads as emit-reads
+use Rattle.formula.proofs.print.emit_closing.Reads as emit-closing-reads
+use Rattle.formula.proofs.print.emit_opening.Reads as emit-opening-reads
+use Rattle.formula.proofs.walk.past.Reads as past-reads
+use Rattle.formula.proofs.walk.subformula_count.Reads as subformula-count-reads
+use Rattle.formula.proofs.word.kind_of.Reads as kind-of-reads
+use Rattle.formula.proofs.print.+emit_clause+emit_parts.{statement}
+use Rattle.formula.proofs.print.+emit_clause+emit_parts.Tie.{close}
+
+abbrev μ-emit-clause : Measures 4 emit-clause-kinds.ps ℕ
+μ-emit-clause κs a = a .1 .1 .0 + a .1 .1 .0
+
+abbrev μ-emit-parts : Measures 4 emit-parts-kinds.ps ℕ
+μ-emit-parts κs a = a .1 .1 .0 + a .1 .1 .0 + 1
+
+abbrev emit-clause-at : ℕ → In 4 emit-clause-kinds.ps
+emit-clause-at t =
+    and 4 emit-clause-kinds.ps (is 4 emit-clause-kinds.ps μ-emit-clause t) emit-clause.Pre
+
+abbrev emit-clause-below : ℕ → In 4 emit-clause-kinds.ps
+emit-clause-below t =
+    and 4 emit-clause-kinds.ps (falls 4 emit-clause-kinds.ps _<_ μ-emit-clause t) emit-clause.Pre
+
+abbrev emit-parts-at : ℕ → In 4 emit-parts-kinds.ps
+emit-parts-at t =
+    and 4 emit-parts-kinds.ps (is 4 emit-parts-kinds.ps μ-emit-parts t) emit-parts.Pre
+
+abbrev emit-parts-below : ℕ → In 4 emit-parts-kinds.ps
+emit-parts-below t =
+    and 4 emit-parts-kinds.ps (falls 4 emit-parts-kinds.ps _<_ μ-emit-parts t) emit-parts.Pre
+
+-- what emit-clause is told of what it calls, at the measure t
+abbrev emit-clause-calls : ℕ → emit-clause-lts.Claims
+emit-clause-calls t = (kind-of-reads.Asked, kind-of-reads.Learnt, emit-opening-reads.Asked, emit-opening-reads.Learnt, subformula-count-reads.Asked, subformula-count-reads.Learnt, emit-parts-below t, emit-parts.Post, emit-closing-reads.Asked, emit-closing-reads.Learnt)
+
+-- what emit-parts is told of what it calls, at the measure t
+abbrev emit-parts-calls : ℕ → emit-parts-lts.Claims
+emit-parts-calls t = (emit-clause-below t, emit-clause.Post, past-reads.Asked, past-reads.Learnt, emit-reads.Asked, emit-reads.Learnt)
+
+emit-clause-returns : (t : ℕ) → emit-clause-lts.Need-returns (emit-clause-calls t) (emit-clause-at t) emit-clause.Post
+emit-clause-returns t c =
+    let a = c .before .before .before .before .before .args in
+    print-nothing (clause-no-level (a .problem .now) (a .table) (a .work .now) (a .at) (a .levels) (c .if1 .taken))
+
+emit-clause-returns-2 : (t : ℕ) → emit-clause-lts.Need-returns-2 (emit-clause-calls t) (emit-clause-at t) emit-clause.Post
+emit-clause-returns-2 t c =
+    let a = c .before .before .before .before .before .before .args in
+    print-nothing (clause-beyond (a .problem .now) (a .table) (a .work .now) (a .at) (a .levels) (c .if2 .taken))
+
+emit-clause-mul-kind-of : (t : ℕ) → emit-clause-lts.Need-mul-kind-of (emit-clause-calls t) (emit-clause-at t) emit-clause.Post
+emit-clause-mul-kind-of t c = search needs
+
+emit-clause-shared-slice-read-kind-of : (t : ℕ) → emit-clause-lts.Need-shared-slice-read-kind-of (emit-clause-calls t) (emit-clause-at t) emit-clause.Post
+emit-clause-shared-slice-read-kind-of t c = search needs
+
+emit-clause-kind-of-requires : (t : ℕ) → emit-clause-lts.Need-kind-of-requires (emit-clause-calls t) (emit-clause-at t) emit-clause.Post
+emit-clause-kind-of-requires t c κs = search needs
+
+emit-clause-add-next : (t : ℕ) → emit-clause-lts.Need-add-next (emit-clause-calls t) (emit-clause-at t) emit-clause.Post
+emit-clause-add-next t c = search needs
+
+emit-clause-emit-opening-requires : (t : ℕ) → emit-clause-lts.Need-emit-opening-requires (emit-clause-calls t) (emit-clause-at t) emit-clause.Post
+emit-clause-emit-opening-requires t c κs = search needs
+
+emit-clause-sub-emit-parts : (t : ℕ) → emit-clause-lts.Need-sub-emit-parts (emit-clause-calls t) (emit-clause-at t) emit-clause.Post
+emit-clause-sub-emit-parts t c = search needs
+
+emit-clause-subformula-count-requires : (t : ℕ) → emit-clause-lts.Need-subformula-count-requires (emit-clause-calls t) (emit-clause-at t) emit-clause.Post
+emit-clause-subformula-count-requires t c κs = search needs
+
+emit-clause-emit-parts-requires : (t : ℕ) → emit-clause-lts.Need-emit-parts-requires (emit-clause-calls t) (emit-clause-at t) emit-clause.Post
+emit-clause-emit-parts-requires t c κs = search needs
+
+emit-clause-emit-closing-requires : (t : ℕ) → emit-clause-lts.Need-emit-closing-requires (emit-clause-calls t) (emit-clause-at t) emit-clause.Post
+emit-clause-emit-closing-requires t c κs = search needs
+
+emit-clause-same-length : (t : ℕ) → emit-clause-lts.Need-same-length (emit-clause-calls t) (emit-clause-at t) emit-clause.Post
+emit-clause-same-length t c = search needs
+
+emit-clause-returns-3 : (t : ℕ) → emit-clause-lts.Need-returns-3 (emit-clause-calls t) (emit-clause-at t) emit-clause.Post
+emit-clause-returns-3 t c =
+    let a = c .before .before .before .before .before .before .before .before .before .before .before .before .before .before .before .before .before .before .before .before .before .args in
+    print-as (clause-kind (a .problem .now) (a .table) (a .work .now) (a .at) (a .levels) _ (c .before .before .before .before .before .before .before .before .before .before .before .before .before .before .before .before .if1 .left) (c .before .before .before .before .before .before .before .before .before .before .before .before .before .before .before .if2 .left) (sym (c .before .before .before .before .before .before .before .before .before .before .before .before .before .kind-of .ensures)))
+    (print-then (c .before .before .before .before .before .before .before .before .before .before .before .emit-opening .ensures)
+    (print-then (print-as (ap (λ (n : ℕ). joined 44 (partTexts (clauseText (a .problem .now) (a .table) (a .levels - 1)) n (drop (a .at + 1) (a .work .now)))) (sym (c .before .before .before .before .before .before .before .before .subformula-count .ensures))) (c .before .before .before .before .before .before .emit-parts .ensures))
+    (c .before .before .emit-closing .ensures)))
+
+abbrev emit-parts-Inv-loop : emit-parts-lts.InvT-loop
+emit-parts-Inv-loop work at levels count problem table claim store out₀ last₀ i₀ pending₀ out last i pending =
+    (i ≤ length work) × (length out ≡ length out₀)
+    × Remains claim store (last₀, out₀) (followed 44 (partTexts (clauseText problem table levels) pending₀ (drop i₀ work)))
+    (last, out) (followed 44 (partTexts (clauseText problem table levels) pending (drop i work)))
+
+abbrev emit-parts-μ-loop : emit-parts-lts.MeasureT-loop
+emit-parts-μ-loop work at levels count problem table claim store out₀ last₀ i₀ pending₀ out last i pending = pending
+
+emit-parts-returns : (t : ℕ) → emit-parts-lts.Need-returns (emit-parts-calls t) (emit-parts-at t) emit-parts.Post emit-parts-Inv-loop emit-parts-μ-loop
+emit-parts-returns t c =
+    let a = c .before .before .before .before .before .args in
+    print-nothing (ap (joined 44) (parts-none (clauseText (a .problem .now) (a .table) (a .levels)) (a .count) (drop (a .at) (a .work .now)) (c .if1 .taken)))
+
+emit-parts-emit-clause-requires : (t : ℕ) → emit-parts-lts.Need-emit-clause-requires (emit-parts-calls t) (emit-parts-at t) emit-parts.Post emit-parts-Inv-loop emit-parts-μ-loop
+emit-parts-emit-clause-requires t c κs = search needs
+
+emit-parts-past-requires : (t : ℕ) → emit-parts-lts.Need-past-requires (emit-parts-calls t) (emit-parts-at t) emit-parts.Post emit-parts-Inv-loop emit-parts-μ-loop
+emit-parts-past-requires t c κs = search needs
+
+emit-parts-sub-pending : (t : ℕ) → emit-parts-lts.Need-sub-pending (emit-parts-calls t) (emit-parts-at t) emit-parts.Post emit-parts-Inv-loop emit-parts-μ-loop
+emit-parts-sub-pending t c = search needs
+
+emit-parts-loop-holds : (t : ℕ) → emit-parts-lts.Need-loop-holds (emit-parts-calls t) (emit-parts-at t) emit-parts.Post emit-parts-Inv-loop emit-parts-μ-loop
+emit-parts-loop-holds t c = (c .past .ensures .1, refl, remains-all)
+
+emit-parts-emit-requires : (t : ℕ) → emit-parts-lts.Need-emit-requires (emit-parts-calls t) (emit-parts-at t) emit-parts.Post emit-parts-Inv-loop emit-parts-μ-loop
+emit-parts-emit-requires t c κs = search needs
+
+emit-parts-emit-clause-requires-2 : (t : ℕ) → emit-parts-lts.Need-emit-clause-requires-2 (emit-parts-calls t) (emit-parts-at t) emit-parts.Post emit-parts-Inv-loop emit-parts-μ-loop
+emit-parts-emit-clause-requires-2 t c κs = search needs
+
+emit-parts-past-requires-2 : (t : ℕ) → emit-parts-lts.Need-past-requires-2 (emit-parts-calls t) (emit-parts-at t) emit-parts.Post emit-parts-Inv-loop emit-parts-μ-loop
+emit-parts-past-requires-2 t c κs = omega (arith, c .before .before .before .before .before .before .before .before .before .before .before .before .before .before .before .before .before .before .before .before .pre, c .before .before .before .before .before .before .before .before .before .loop .inv .0)
+
+emit-parts-sub-pending-2 : (t : ℕ) → emit-parts-lts.Need-sub-pending-2 (emit-parts-calls t) (emit-parts-at t) emit-parts.Post emit-parts-Inv-loop emit-parts-μ-loop
+emit-parts-sub-pending-2 t c = search needs
+
+emit-parts-loop-less : (t : ℕ) → emit-parts-lts.Need-loop-less (emit-parts-calls t) (emit-parts-at t) emit-parts.Post emit-parts-Inv-loop emit-parts-μ-loop
+emit-parts-loop-less t c = search needs
+
+emit-parts-loop-again : (t : ℕ) → emit-parts-lts.Need-loop-again (emit-parts-calls t) (emit-parts-at t) emit-parts.Post emit-parts-Inv-loop emit-parts-μ-loop
+emit-parts-loop-again t c =
+    let a = c .before .before .before .before .before .before .before .before .before .before .before .before .before .before .before .before .before .before .before .before .before .args in
+    let l = c .before .before .before .before .before .before .before .before .before .before .loop in
+    let t = clauseText (a .problem .now) (a .table) (a .levels) in (
+      c .past2 .ensures .1,
+      c .before .before .before .emit-clause2 .kept .1 .1 .1 .1 .1 .1 .1 .1 .0 ∙ (c .before .before .before .before .before .before .before .emit .kept .1 .1 .1 .1 .0 ∙ l .inv .1),
+      remains-next (l .inv .2)
+          (parts-more (a .work .now) (l .i) (l .pending) (c .before .before .before .before .before .before .before .before .before .loop-test .taken) t ∙ ap (λ (j : ℕ). t (drop (l .i) (a .work .now)) ∷ partTexts t (l .pending - 1) (drop j (a .work .now))) (sym (c .past2 .ensures .0)))
+          (c .before .before .before .before .before .before .before .emit .ensures) (c .before .before .before .emit-clause2 .ensures),
+    )
+
+emit-parts-same-length : (t : ℕ) → emit-parts-lts.Need-same-length (emit-parts-calls t) (emit-parts-at t) emit-parts.Post emit-parts-Inv-loop emit-parts-μ-loop
+emit-parts-same-length t c = c .before .loop .inv .1 ∙ c .before .before .before .before .before .emit-clause .kept .1 .1 .1 .1 .1 .1 .1 .1 .0
+
+emit-parts-returns-2 : (t : ℕ) → emit-parts-lts.Need-returns-2 (emit-parts-calls t) (emit-parts-at t) emit-parts.Post emit-parts-Inv-loop emit-parts-μ-loop
+emit-parts-returns-2 t c =
+    let a = c .before .before .before .before .before .before .before .before .before .before .before .before .args in
+    let l = c .before .loop in
+    let t = clauseText (a .problem .now) (a .table) (a .levels) in
+    print-as (ap (joined 44) (parts-more (a .work .now) (a .at) (a .count) (omega (arith, c .before .before .before .before .before .before .before .if1 .left)) t ∙ ap (λ (j : ℕ). t (drop (a .at) (a .work .now)) ∷ partTexts t (a .count - 1) (drop j (a .work .now))) (sym (c .before .before .past .ensures .0))))
+    (print-then (c .before .before .before .before .before .emit-clause .ensures) (remains-last (l .inv .2) (parts-none t (l .pending) (drop (l .i) (a .work .now)) (omega arith))))
+
+pub +emit-clause+emit-parts-spec : {M : Type 1} → statement M
++emit-clause+emit-parts-spec = close μ-emit-clause μ-emit-parts (λ t. emit-clause-lts.spec (emit-clause-calls t)
+    (emit-clause-at t)
+    emit-clause.Post
+    (emit-clause-returns t)
+    (emit-clause-returns-2 t)
+    (emit-clause-mul-kind-of t)
+    (emit-clause-shared-slice-read-kind-of t)
+    (emit-clause-kind-of-requires t)
+    (emit-clause-add-next t)
+    (emit-clause-emit-opening-requires t)
+    (emit-clause-sub-emit-parts t)
+    (emit-clause-subformula-count-requires t)
+    (emit-clause-emit-parts-requires t)
+    (emit-clause-emit-closing-requires t)
+    (emit-clause-same-length t)
+    (emit-clause-returns-3 t))
+    λ t. emit-parts-lts.spec (emit-parts-calls t)
+    (emit-parts-at t)
+    emit-parts.Post
+    emit-parts-Inv-loop
+    emit-parts-μ-loop
+    (emit-parts-returns t)
+    (emit-parts-emit-clause-requires t)
+    (emit-parts-past-requires t)
+    (emit-parts-sub-pending t)
+    (emit-parts-loop-holds t)
+    (emit-parts-emit-requires t)
+    (emit-parts-emit-clause-requires-2 t)
+    (emit-parts-past-requires-2 t)
+    (emit-parts-sub-pending-2 t)
+    (emit-parts-loop-less t)
+    (emit-parts-loop-again t)
+    (emit-parts-same-length t)
+    (emit-parts-returns-2 t)

@@ -1,0 +1,78 @@
+-- `print::emit_number` prints the digits of a tenth of the number, and then the last. The measure is the number.
+-- Assumes nothing.
+use borrow.Author.Needs.{needs}
+use Rattle.text.proofs.Numbers.{decimal-one, decimal-more}
+use Rattle.formula.proofs.memory.Cursor.{print-as, print-then}
+use Prim.Native.Nat.{ℕ, _<_}
+use borrow.Fn.Kinds.{In}
+use borrow.Fn.PlainCycle.{Measures, is, falls, and}
+use Rattle.formula.proofs.print.emit_number.Reads as emit-number
+use Rattle.formula.proofs.print.emit_number.Kinds as emit-number-kinds
+use Rattle.formula.proofs.print.+emit_number.Lts-emit_number as emit-number-lts
+use Rattle.formula.proofs.cursor.emit.Reads as emit-reads
+use Rattle.formula.proofs.print.+emit_number.{statement}
+use Rattle.formula.proofs.print.+emit_number.Tie.{close}
+
+abbrev μ-emit-number : Measures 2 emit-number-kinds.ps ℕ
+μ-emit-number κs a = a .0
+
+abbrev emit-number-at : ℕ → In 2 emit-number-kinds.ps
+emit-number-at t =
+    and 2 emit-number-kinds.ps (is 2 emit-number-kinds.ps μ-emit-number t) emit-number.Pre
+
+abbrev emit-number-below : ℕ → In 2 emit-number-kinds.ps
+emit-number-below t =
+    and 2 emit-number-kinds.ps (falls 2 emit-number-kinds.ps _<_ μ-emit-number t) emit-number.Pre
+
+-- what emit-number is told of what it calls, at the measure t
+abbrev emit-number-calls : ℕ → emit-number-lts.Claims
+emit-number-calls t = (emit-reads.Asked, emit-reads.Learnt, emit-number-below t, emit-number.Post)
+
+emit-number-cast-emit : (t : ℕ) → emit-number-lts.Need-cast-emit (emit-number-calls t) (emit-number-at t) emit-number.Post
+emit-number-cast-emit t c = search needs
+
+emit-number-add-emit : (t : ℕ) → emit-number-lts.Need-add-emit (emit-number-calls t) (emit-number-at t) emit-number.Post
+emit-number-add-emit t c = search needs
+
+emit-number-emit-requires : (t : ℕ) → emit-number-lts.Need-emit-requires (emit-number-calls t) (emit-number-at t) emit-number.Post
+emit-number-emit-requires t c κs = search needs
+
+emit-number-same-length : (t : ℕ) → emit-number-lts.Need-same-length (emit-number-calls t) (emit-number-at t) emit-number.Post
+emit-number-same-length t c = search needs
+
+emit-number-returns : (t : ℕ) → emit-number-lts.Need-returns (emit-number-calls t) (emit-number-at t) emit-number.Post
+emit-number-returns t c = print-as (decimal-one (c .before .before .before .before .before .before .before .args .n) (c .before .before .before .before .if1 .taken)) (c .before .before .emit .ensures)
+
+emit-number-emit-number-requires : (t : ℕ) → emit-number-lts.Need-emit-number-requires (emit-number-calls t) (emit-number-at t) emit-number.Post
+emit-number-emit-number-requires t c κs = search needs
+
+emit-number-cast-emit-2 : (t : ℕ) → emit-number-lts.Need-cast-emit-2 (emit-number-calls t) (emit-number-at t) emit-number.Post
+emit-number-cast-emit-2 t c = search needs
+
+emit-number-add-emit-2 : (t : ℕ) → emit-number-lts.Need-add-emit-2 (emit-number-calls t) (emit-number-at t) emit-number.Post
+emit-number-add-emit-2 t c = search needs
+
+emit-number-emit-requires-2 : (t : ℕ) → emit-number-lts.Need-emit-requires-2 (emit-number-calls t) (emit-number-at t) emit-number.Post
+emit-number-emit-requires-2 t c κs = search needs
+
+emit-number-same-length-2 : (t : ℕ) → emit-number-lts.Need-same-length-2 (emit-number-calls t) (emit-number-at t) emit-number.Post
+emit-number-same-length-2 t c = search needs
+
+emit-number-returns-2 : (t : ℕ) → emit-number-lts.Need-returns-2 (emit-number-calls t) (emit-number-at t) emit-number.Post
+emit-number-returns-2 t c = print-as (decimal-more (c .before .before .before .before .before .before .before .before .before .before .before .args .n) (c .before .before .before .before .before .before .before .before .if1 .left)) (print-then (c .before .before .before .before .before .before .emit-number .ensures) (c .before .before .emit2 .ensures))
+
+pub +emit-number-spec : {M : Type 1} → statement M
++emit-number-spec = close μ-emit-number λ t. emit-number-lts.spec (emit-number-calls t)
+    (emit-number-at t)
+    emit-number.Post
+    (emit-number-cast-emit t)
+    (emit-number-add-emit t)
+    (emit-number-emit-requires t)
+    (emit-number-same-length t)
+    (emit-number-returns t)
+    (emit-number-emit-number-requires t)
+    (emit-number-cast-emit-2 t)
+    (emit-number-add-emit-2 t)
+    (emit-number-emit-requires-2 t)
+    (emit-number-same-length-2 t)
+    (emit-number-returns-2 t)

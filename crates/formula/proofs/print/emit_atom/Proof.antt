@@ -1,0 +1,51 @@
+-- `print::emit_atom` prints a predicate's name, and its terms in brackets if there are any.
+
+-- Assumes nothing.
+use borrow.Author.Needs.{needs}
+use Rattle.formula.proofs.memory.Cursor.{print-as, print-then}
+use Rattle.formula.proofs.memory.ClauseText.{atom-plain, atom-listed}
+use lib.ListN.{drop}
+use Rattle.formula.proofs.print.emit_atom.Statement.{statement}
+use Rattle.formula.proofs.print.emit_atom.Tie as tie
+
+emit-name-requires : tie.Need-emit-name-requires
+emit-name-requires c κs = search needs
+
+same-length : tie.Need-same-length
+same-length c = search needs
+
+returns : tie.Need-returns
+returns c =
+    let a = c .before .before .before .before .before .before .before .before .before .args in
+    print-as (atom-plain (a .problem .now) (a .table) (a .predicate) (a .count) (drop (a .at) (a .work .now)) (c .if1 .taken)) (c .before .before .before .emit-name .ensures)
+
+emit-requires : tie.Need-emit-requires
+emit-requires c κs = search needs
+
+emit-elements-requires : tie.Need-emit-elements-requires
+emit-elements-requires c κs = search needs
+
+emit-requires-2 : tie.Need-emit-requires-2
+emit-requires-2 c κs = search needs
+
+same-length-2 : tie.Need-same-length-2
+same-length-2 c = search needs
+
+returns-2 : tie.Need-returns-2
+returns-2 c =
+    let a = c .before .before .before .before .before .before .before .before .before .before .before .before .before .before .before .before .before .before .before .before .before .args in
+    print-as (atom-listed (a .problem .now) (a .table) (a .predicate) (a .count) (drop (a .at) (a .work .now)) (c .before .before .before .before .before .before .before .before .before .before .before .before .if1 .left))
+    (print-then (c .before .before .before .before .before .before .before .before .before .before .before .before .before .before .before .emit-name .ensures) (print-then (c .before .before .before .before .before .before .before .before .before .before .emit .ensures) (print-then (c .before .before .before .before .before .before .emit-elements .ensures) (c .before .before .emit2 .ensures))))
+
+pub emit-atom-spec : {M : Type 1} → statement M
+emit-atom-spec =
+    tie.close
+    (tie.spec
+    emit-name-requires
+    same-length
+    returns
+    emit-requires
+    emit-elements-requires
+    emit-requires-2
+    same-length-2
+    returns-2)

@@ -1,0 +1,78 @@
+-- `print::emit_lines` prints one clause after the other, with an LF behind each. The invariant: the lines from here on remain.
+-- Assumes nothing.
+use borrow.Author.Needs.{needs}
+use native.Mathlib.Omega.{arith}
+use Prim.Native.Nat.{ℕ, _+_, _-_, _≤_}
+use mathlib.Core.Path.{_≡_, refl, sym, ap, _∙_}
+use mathlib.Core.List.{_++_}
+use lib.ListN.{length, drop}
+use Rattle.text.specs.Bytes.{bytes}
+use Rattle.formula.specs.memory.ClauseText.{clauseText, clauseLines}
+use Rattle.formula.proofs.memory.Cursor.{Remains, remains-all, remains-then, remains-nothing, print-then}
+use Rattle.formula.proofs.memory.ClauseText.{lines-none, lines-more}
+use Rattle.formula.proofs.print.emit_lines.Statement.{statement}
+use Rattle.formula.proofs.print.emit_lines.Tie as tie
+
+abbrev Inv-loop : tie.InvT-loop
+Inv-loop work at levels count problem table claim store out₀ last₀ i₀ pending₀ out last i pending =
+    (i ≤ length work) × (length out ≡ length out₀)
+    × Remains claim store (last₀, out₀) (clauseLines problem table levels count (drop at work)) (last, out) (clauseLines problem table levels pending (drop i work))
+
+abbrev μ-loop : tie.MeasureT-loop
+μ-loop work at levels count problem table claim store out₀ last₀ i₀ pending₀ out last i pending = pending
+
+loop-holds : tie.Need-loop-holds Inv-loop μ-loop
+loop-holds c = (omega arith, refl, remains-all)
+
+emit-clause-requires : tie.Need-emit-clause-requires Inv-loop μ-loop
+emit-clause-requires c κs = search needs
+
+emit-requires : tie.Need-emit-requires Inv-loop μ-loop
+emit-requires c κs = search needs
+
+past-requires : tie.Need-past-requires Inv-loop μ-loop
+past-requires c κs = omega (arith, c .before .before .before .before .before .before .before .before .before .before .before .before .before .before .pre, c .before .before .before .before .before .before .before .before .before .loop .inv .0)
+
+sub-pending : tie.Need-sub-pending Inv-loop μ-loop
+sub-pending c = search needs
+
+loop-less : tie.Need-loop-less Inv-loop μ-loop
+loop-less c = search needs
+
+loop-again : tie.Need-loop-again Inv-loop μ-loop
+loop-again c =
+    let a = c .before .before .before .before .before .before .before .before .before .before .before .before .before .before .before .args in
+    let l = c .before .before .before .before .before .before .before .before .before .before .loop in
+    let t = clauseText (a .problem .now) (a .table) (a .levels) (drop (l .i) (a .work .now)) ++ bytes "\n" in (
+      c .past .ensures .1,
+      c .before .before .before .emit .kept .1 .1 .1 .1 .0 ∙ (c .before .before .before .before .before .before .before .emit-clause .kept .1 .1 .1 .1 .1 .1 .1 .1 .0 ∙ l .inv .1),
+      remains-then (l .inv .2)
+          (lines-more (a .work .now) (l .i) (l .pending) (c .before .before .before .before .before .before .before .before .before .loop-test .taken) (a .problem .now) (a .table) (a .levels)
+          ∙ ap (λ (j : ℕ). t ++ clauseLines (a .problem .now) (a .table) (a .levels) (l .pending - 1) (drop j (a .work .now))) (sym (c .past .ensures .0)))
+          (print-then (c .before .before .before .before .before .before .before .emit-clause .ensures) (c .before .before .before .emit .ensures)),
+    )
+
+same-length : tie.Need-same-length Inv-loop μ-loop
+same-length c = c .before .loop .inv .1
+
+returns : tie.Need-returns Inv-loop μ-loop
+returns c =
+    let a = c .before .before .before .before .before .before .args in
+    let l = c .before .loop in
+    remains-nothing (l .inv .2) (lines-none (a .problem .now) (a .table) (a .levels) (l .pending) (drop (l .i) (a .work .now)) (omega arith))
+
+pub emit-lines-spec : {M : Type 1} → statement M
+emit-lines-spec =
+    tie.close
+    (tie.spec
+    Inv-loop
+    μ-loop
+    loop-holds
+    emit-clause-requires
+    emit-requires
+    past-requires
+    sub-pending
+    loop-less
+    loop-again
+    same-length
+    returns)
