@@ -21,3 +21,6 @@ pub mod NameTable
 pub mod Variables
 pub mod Clauses
 pub mod GroundTable
+pub mod Facts
+pub mod Bindings
+pub mod Signature

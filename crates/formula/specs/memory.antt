@@ -10,3 +10,6 @@ pub mod Instances
 pub mod ClauseText
 pub mod NameTable
 pub mod Clauses
+pub mod Facts
+pub mod Bindings
+pub mod Signature

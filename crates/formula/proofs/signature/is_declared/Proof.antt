@@ -1,0 +1,70 @@
+-- `signature::is_declared` looks at one predicate after another. The invariant: it is declared if it is among those that are left.
+-- Assumes nothing.
+use borrow.Author.Needs.{needs}
+use native.Mathlib.Omega.{arith}
+use Prim.Native.Nat.{ℕ, _+_, _-_, _≤_}
+use mathlib.Core.Path.{_≡_, refl, sym, ap, _∙_}
+use Rattle.text.specs.Problem.{predicates, declared}
+use Rattle.text.specs.memory.Table.{indexed, tablePredicate}
+use Rattle.formula.specs.memory.Signature.{signatureOf}
+use Rattle.formula.proofs.memory.Signature.{declared-first, declared-none, declared-here, declared-next}
+use Rattle.formula.proofs.signature.is_declared.Statement.{statement}
+use Rattle.formula.proofs.signature.is_declared.Tie as tie
+
+abbrev Inv-loop : tie.InvT-loop
+Inv-loop problem table name arity count i₀ i =
+    (i ≤ count) × (declared (predicates (signatureOf problem table)) name arity ≡ declared (indexed (tablePredicate problem table) i (count - i)) name arity)
+
+abbrev μ-loop : tie.MeasureT-loop
+μ-loop problem table name arity count i₀ i = count - i
+
+predicate-count-requires : tie.Need-predicate-count-requires Inv-loop μ-loop
+predicate-count-requires c κs = search needs
+
+loop-holds : tie.Need-loop-holds Inv-loop μ-loop
+loop-holds c =
+    let a = c .before .before .before .args in
+    (omega arith, declared-first (a .problem .now) (a .table) (a .name .now) (c .predicate-count .result) (a .arity) (c .predicate-count .ensures))
+
+is-predicate-requires : tie.Need-is-predicate-requires Inv-loop μ-loop
+is-predicate-requires c κs = search needs
+
+returns : tie.Need-returns Inv-loop μ-loop
+returns c =
+    let a = c .before .before .before .before .before .before .before .args in
+    let l = c .before .before .before .loop in
+    sym (l .inv .1 ∙ declared-here (tablePredicate (a .problem .now) (a .table)) (l .i) (a .name .now) (a .arity) (c .before .before .before .before .predicate-count .result - l .i) (omega arith) (sym (c .before .is-predicate .ensures) ∙ c .if1 .taken))
+
+add-i : tie.Need-add-i Inv-loop μ-loop
+add-i c = search needs
+
+loop-less : tie.Need-loop-less Inv-loop μ-loop
+loop-less c = search needs
+
+loop-again : tie.Need-loop-again Inv-loop μ-loop
+loop-again c =
+    let a = c .before .before .before .before .before .before .before .args in
+    let l = c .before .before .before .loop in
+    let e : c .before .before .before .before .predicate-count .result - l .i - 1 ≡ c .before .before .before .before .predicate-count .result - (l .i + 1) = omega arith in
+    (omega arith, l .inv .1 ∙ declared-next (tablePredicate (a .problem .now) (a .table)) (l .i) (a .name .now) (a .arity) (c .before .before .before .before .predicate-count .result - l .i) (omega arith) (sym (c .before .is-predicate .ensures) ∙ c .if1 .left) ∙ rw e)
+
+returns-2 : tie.Need-returns-2 Inv-loop μ-loop
+returns-2 c =
+    let a = c .before .before .before .before .before .args in
+    let l = c .before .loop in
+    sym (l .inv .1 ∙ declared-none (tablePredicate (a .problem .now) (a .table)) (l .i) (a .name .now) (a .arity) (c .before .before .predicate-count .result - l .i) (omega arith))
+
+pub is-declared-spec : {M : Type 1} → statement M
+is-declared-spec =
+    tie.close
+    (tie.spec
+    Inv-loop
+    μ-loop
+    predicate-count-requires
+    loop-holds
+    is-predicate-requires
+    returns
+    add-i
+    loop-less
+    loop-again
+    returns-2)

@@ -1,0 +1,71 @@
+// Whether a predicate is one of the problem's.
+use text::name::equal;
+use text::name::part;
+use text::table::Table;
+use text::table::entry;
+ghost use mathlib.Core.Path.{_≡_};
+ghost use mathlib.Core.Bool.{_&&_};
+ghost use Prim.Native.Nat.{max};
+ghost use lib.Dec.{eqb};
+ghost use lib.ListN.{getD};
+ghost use Rattle.text.specs.Bytes.{same};
+ghost use Rattle.text.specs.Problem.{predicates, declared, isInput};
+ghost use Rattle.text.specs.memory.Table.{tableName};
+ghost use Rattle.formula.specs.memory.Signature.{signatureOf};
+
+fn has_name(problem: &[u8], table: Table, i: u32, name: &[u8]) -> bool
+    ensures { λ r. ⌜ r ≡ same (now (name .entry)) (tableName (now (problem .entry)) table i) ⌝ }
+{
+    let starts = table.start;
+    let sizes = table.size;
+    equal(name, part(problem, entry(starts, i), entry(sizes, i)))
+}
+
+fn predicate_count(table: Table) -> u32
+    ensures { λ r. ⌜ r ≡ max (table .inputs) (table .count) ⌝ }
+{
+    if table.inputs < table.count {
+        table.count
+    } else {
+        table.inputs
+    }
+}
+
+fn is_predicate(problem: &[u8], table: Table, i: u32, name: &[u8], arity: usize) -> bool
+    ensures { λ r. ⌜ r ≡ (same (now (name .entry)) (tableName (now (problem .entry)) table i) && eqb (getD (table .arity) i 0) arity) ⌝ }
+{
+    if !has_name(problem, table, i, name) {
+        return false;
+    }
+    let arities = table.arity;
+    entry(arities, i) == arity
+}
+
+// Whether there is a predicate of a name and an arity.
+pub fn is_declared(problem: &[u8], table: Table, name: &[u8], arity: usize) -> bool
+    ensures { λ r. ⌜ r ≡ declared (predicates (signatureOf (now (problem .entry)) table)) (now (name .entry)) arity ⌝ }
+{
+    let count = predicate_count(table);
+    let mut i: u32 = 0;
+    while i < count {
+        if is_predicate(problem, table, i, name, arity) {
+            return true;
+        }
+        i += 1;
+    }
+    false
+}
+
+// Whether there is an input predicate of a name.
+pub fn is_input(problem: &[u8], table: Table, name: &[u8]) -> bool
+    ensures { λ r. ⌜ r ≡ isInput (signatureOf (now (problem .entry)) table) (now (name .entry)) ⌝ }
+{
+    let mut i: u32 = 0;
+    while i < table.inputs {
+        if has_name(problem, table, i, name) {
+            return true;
+        }
+        i += 1;
+    }
+    false
+}
