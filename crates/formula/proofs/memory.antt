@@ -24,3 +24,5 @@ pub mod GroundTable
 pub mod Facts
 pub mod Bindings
 pub mod Signature
+pub mod Simplified
+pub mod Simplification

@@ -13,3 +13,4 @@ pub mod Clauses
 pub mod Facts
 pub mod Bindings
 pub mod Signature
+pub mod Simplified

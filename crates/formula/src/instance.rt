@@ -1,4 +1,5 @@
 // IQ in memory: the body of a quantifier is copied once for each element whose flag is set, with the element for the variable.
+use crate::head::junction_word;
 use crate::store::copy;
 use crate::store::put;
 use crate::walk::past;
@@ -12,7 +13,7 @@ ghost use lib.ListN.{getD, take};
 ghost use lib.Seq.{slice};
 ghost use Rattle.formula.specs.memory.Kinds.{kindOf, partCount};
 ghost use Rattle.formula.specs.memory.Storing.{Stores, Behind, Placed, Rewritten};
-ghost use Rattle.formula.specs.memory.Instances.{wordWith, heldAfter, wordsWith, copies, setCount, junctionFor, instantiatedWords};
+ghost use Rattle.formula.specs.memory.Instances.{wordWith, heldAfter, wordsWith, copies, setCount, instantiatedWords};
 
 // A word with an element for a variable, where some formulas are still to be copied as they are.
 fn word_with(x: u32, v: u32, held: usize, word: u32) -> u32
@@ -108,12 +109,6 @@ pub fn instances(
     j
 }
 
-fn one_if(chosen: bool) -> u32
-    ensures { λ r. ⌜ (r ≡ cond chosen 1 0) × (r ≤ 1) ⌝ }
-{
-    if chosen { 1 } else { 0 }
-}
-
 // How many of the first flags are set.
 fn set_count(flags: [bool; 64], domain: u32) -> u32
     requires { ⌜ domain ≤ 64 ⌝ }
@@ -122,25 +117,16 @@ fn set_count(flags: [bool; 64], domain: u32) -> u32
     let mut i: u32 = 0;
     let mut count: u32 = 0;
     while i < domain {
-        count += one_if(flags[i as usize]);
+        if flags[i as usize] {
+            count += 1;
+        }
         i += 1;
     }
     count
 }
 
-// The word of the connective that takes a quantifier's place.
-fn junction_for(word: u32, count: u32) -> u32
-    requires { ⌜ count ≤ 64 ⌝ }
-    ensures { λ r. ⌜ r ≡ junctionFor word count ⌝ }
-{
-    if word % 16 == 8 {
-        return count * 16 + 3;
-    }
-    count * 16 + 4
-}
-
 // What is made of the quantifier from `at` to `end`.
-fn instantiated(
+fn store_instantiated(
     work: &mut [u32],
     at: usize,
     end: usize,
@@ -153,7 +139,8 @@ fn instantiated(
 {
     let word = work[at];
     let body = past(&work[..end], at + 1, 1);
-    let next = put(work, to, junction_for(word, set_count(flags, domain)));
+    let count = set_count(flags, domain);
+    let next = put(work, to, junction_word(word % 16 == 8, count));
     instances(work, body, end, word / 16, flags, domain, next)
 }
 
@@ -171,6 +158,6 @@ pub fn instantiate(
     ensures { λ r. ⌜ Rewritten (now (work .entry)) at end full to (instantiatedWords (getD (now (work .entry)) at 0) (slice (at + 1) end (now (work .entry))) (take domain flags)) r (now (work .exit)) ⌝ }
 {
     let place = copy(work, 0, at, to);
-    let next = instantiated(work, at, end, flags, domain, place);
+    let next = store_instantiated(work, at, end, flags, domain, place);
     copy(work, end, full, next) - to
 }

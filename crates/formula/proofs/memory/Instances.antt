@@ -1,18 +1,22 @@
 -- A turn of each loop of IQ in memory: over the words of a copy, over the elements, and over their flags.
 -- Assumes nothing.
-use Prim.Native.Nat.{ℕ, zero, suc, _+_, _-_, _*_, _/_, _≤_, _<_}
+use Prim.Native.Nat.{ℕ, zero, suc, _+_, _-_, _*_, _/_, _%_, _≤_, _<_}
+use native.Mathlib.Nat.{zero-add}
 use native.Mathlib.Numerals.{add-one, sub-one}
 use native.Mathlib.Omega.{arith}
 use mathlib.Core.Path.{_≡_, refl, sym, ap}
 use mathlib.Core.List.{List, [], _∷_, _++_, append-nil}
 use mathlib.Core.Bool.{Bool, true, false, cond}
 use borrow.Author.Tests.{eq-eqb, ne-eqb}
+use lib.Dec.{eqb}
 use lib.ListN.{length, getD, take, length-append, length-take, length-drop}
 use lib.Seq.{slice, slice-empty, slice-cons, drop-drop}
 use Rattle.formula.specs.memory.Kinds.{kindOf, partCount, skip}
-use Rattle.formula.specs.memory.Stored.{afterFirst}
+use Rattle.formula.specs.Formula.{junction}
+use Rattle.formula.specs.memory.Words.{connectiveTag}
+use Rattle.formula.specs.memory.Stored.{sideOf, afterFirst}
 use Rattle.formula.specs.memory.Storing.{Stores}
-use Rattle.formula.specs.memory.Instances.{wordWith, heldAfter, wordsWith, copies, setCount, junctionFor, instantiatedWords}
+use Rattle.formula.specs.memory.Instances.{wordWith, heldAfter, wordsWith, copies, setCount, instantiatedWords}
 use Rattle.formula.proofs.memory.Storing.{Ahead, ahead-start, ahead-turn, ahead-end, ahead-read, ahead-slice}
 
 -- One word.
@@ -83,9 +87,13 @@ module _ (flags : List Bool) (count i : ℕ) where
     unfolding copies
     copies-next x s = rw (slice-cons i count flags false within enough, add-one (i + 1), add-one i)
 
-    pub setCount-next : setCount (slice i count flags) ≡ cond (getD flags i false) 1 0 + setCount (slice (i + 1) count flags)
+    pub setCount-set : getD flags i false ≡ true → setCount (slice i count flags) ≡ 1 + setCount (slice (i + 1) count flags)
     unfolding setCount
-    setCount-next = rw (slice-cons i count flags false within enough, add-one i)
+    setCount-set e = rw (slice-cons i count flags false within enough, add-one i, e)
+
+    pub setCount-unset : getD flags i false ≡ false → setCount (slice i count flags) ≡ setCount (slice (i + 1) count flags)
+    unfolding setCount
+    setCount-unset e = rw (slice-cons i count flags false within enough, add-one i, e) (zero-add _)
 
   pub copies-none : (x : ℕ) (s : List ℕ) (v : ℕ) → i ≡ count → copies (slice i count flags) x s v ≡ []
   unfolding copies
@@ -114,7 +122,7 @@ copies-near flags count x work at end v h =
 
 -- what is stored for a quantifier: the connective's word, and the copies of the body from where the guard ends
 module _ {old : List ℕ} (at end body word head : ℕ) (flags : List Bool) {to next : ℕ} {first : List ℕ}
-    (apart : end ≤ to) (guarded : body ≡ at + 1 + skip (slice (at + 1) end old) 1) (counted : head ≡ junctionFor word (setCount flags))
+    (apart : end ≤ to) (guarded : body ≡ at + 1 + skip (slice (at + 1) end old) 1) (counted : head ≡ setCount flags * 16 + connectiveTag (junction (sideOf (eqb (word % 16) 8))))
     (s : Stores old to (head ∷ []) next first) where
   started : Ahead old to (instantiatedWords word (slice (at + 1) end old) flags) first next (copies flags (word / 16) (afterFirst (slice (at + 1) end old)) 1)
   unfolding instantiatedWords

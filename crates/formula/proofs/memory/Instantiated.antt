@@ -7,22 +7,25 @@ use mathlib.Core.Path.{_≡_, refl, sym, ap, _∙_}
 use mathlib.Core.List.{List, [], _++_, map, append-nil}
 use mathlib.Core.Bool.{Bool, true, false, cond}
 use borrow.Author.Tests.{eq-eqb, ne-eqb}
+use lib.Dec.{eqb}
 use lib.ListN.{length, getD, drop}
 use lib.Seq.{slice}
 use Rattle.text.specs.Problem.{Name, Problem}
-use Rattle.formula.specs.Formula.{Side, all, any, junction, Formula, quantifier, Formulas, part, size, replace}
+use Rattle.formula.specs.Formula.{Side, all, any, Formula, quantifier, Formulas, part, size, replace}
 use Rattle.formula.specs.Meaning.{countFrom, elementsTo}
 use Rattle.formula.specs.Rules.{admits, instances, instantiated}
-use Rattle.formula.specs.memory.Words.{connectiveTag, quantifierTag, partTotal, words}
-use Rattle.formula.specs.memory.Instances.{wordsWith, copies, setCount, junctionFor, instantiatedWords}
+use Rattle.formula.specs.memory.Words.{quantifierTag, partTotal, words}
+use Rattle.formula.specs.memory.Stored.{sideOf}
+use Rattle.formula.specs.memory.Instances.{wordsWith, copies, setCount, instantiatedWords}
 use Rattle.formula.proofs.memory.Naming.{Naming, wordsIn, allWordsIn, Storable, VariableListed}
 use Rattle.formula.proofs.memory.Words.{length-words, afterFirst-words}
 use Rattle.formula.proofs.memory.Standing.{first-stands, others-stand}
 use Rattle.formula.proofs.memory.Replaced.{words-replaced}
 
-junction-word : (c : Side) (x n : ℕ) → junctionFor (x * 16 + quantifierTag c) n ≡ n * 16 + connectiveTag (junction c)
-junction-word all x n = let e : (x * 16 + 8) % 16 ≡ 8 = omega arith in rw (eq-eqb ((x * 16 + 8) % 16) 8 e)
-junction-word any x n = let e : (x * 16 + 9) % 16 ≡ 8 → ⊥ = λ q. omega arith in rw (ne-eqb ((x * 16 + 9) % 16) 8 e)
+-- `&` for `!`, `|` for `?`
+junction-side : (c : Side) (x : ℕ) → sideOf (eqb ((x * 16 + quantifierTag c) % 16) 8) ≡ c
+junction-side all x = let e : (x * 16 + 8) % 16 ≡ 8 = omega arith in rw (eq-eqb ((x * 16 + 8) % 16) 8 e)
+junction-side any x = let e : (x * 16 + 9) % 16 ≡ 8 → ⊥ = λ q. omega arith in rw (ne-eqb ((x * 16 + 9) % 16) 8 e)
 
 quantifier-index : (c : Side) (x : ℕ) → (x * 16 + quantifierTag c) / 16 ≡ x
 quantifier-index all x = omega arith
@@ -66,7 +69,7 @@ module _ (N : Naming) (P : Problem) (x : Name) (listed : VariableListed N x) (g 
     instantiated-words =
         rw (
           setCount-instances (P .domain) 1,
-          junction-word c (N .variableIndex x) _,
+          junction-side c (N .variableIndex x),
           quantifier-index c (N .variableIndex x),
           afterFirst-words N g (wordsIn N f),
           copies-words (P .domain) 1,

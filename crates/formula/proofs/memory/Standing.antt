@@ -3,19 +3,15 @@
 use Prim.Native.Nat.{ℕ, zero, suc, _+_}
 use native.Mathlib.Nat.{zero-add, suc-add}
 use native.Mathlib.Omega.{arith}
-use mathlib.Core.Path.{_≡_, refl, sym, ap, _∙_}
+use mathlib.Core.Path.{_≡_, sym, ap, _∙_}
 use mathlib.Core.List.{List, [], _∷_, _++_}
 use lib.ListN.{length, getD, take, drop}
-use lib.Seq.{slice, drop-drop, take-append-seam}
+use lib.Seq.{slice, take-nil, drop-drop, take-append-seam}
 use Rattle.text.proofs.Places.{next-within}
 
-drop-take : (i n : ℕ) (l : List ℕ) → drop i (take (i + n) l) ≡ take n (drop i l)
+pub drop-take : (i n : ℕ) (l : List ℕ) → drop i (take (i + n) l) ≡ take n (drop i l)
 drop-take zero n l = rw zero-add
-drop-take (suc i) n [] = rw suc-add (sym (none n))
-  where
-    none : (k : ℕ) → _≡_ {A = List ℕ} (take k []) []
-    none zero = refl
-    none (suc k) = refl
+drop-take (suc i) n [] = rw suc-add (sym (take-nil n))
 drop-take (suc i) n (w ∷ l) = rw suc-add (drop-take i n l)
 
 module _ (work : List ℕ) (at first : ℕ) (others rest : List ℕ) (stands : drop at work ≡ first ∷ (others ++ rest)) where

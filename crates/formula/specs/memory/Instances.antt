@@ -4,7 +4,9 @@ use mathlib.Core.List.{List, [], _∷_, _++_}
 use mathlib.Core.Bool.{Bool, cond, _||_}
 use lib.Dec.{eqb}
 use Rattle.formula.specs.memory.Kinds.{kindOf, partCount}
-use Rattle.formula.specs.memory.Stored.{afterFirst}
+use Rattle.formula.specs.Formula.{junction}
+use Rattle.formula.specs.memory.Stored.{sideOf, afterFirst}
+use Rattle.formula.specs.memory.Words.{connectiveTag}
 
 -- a word with v for x, where `held` formulas are still to be copied as they are
 unfoldable pub wordWith : ℕ → ℕ → ℕ → ℕ → ℕ
@@ -30,10 +32,6 @@ unfoldable pub setCount : List Bool → ℕ
 setCount [] = 0
 setCount (chosen ∷ flags) = cond chosen 1 0 + setCount flags
 
--- the word of the `&` or `|` of so many parts that takes the place of `!` or `?`
-abbrev pub junctionFor : ℕ → ℕ → ℕ
-junctionFor word count = count * 16 + cond (eqb (word % 16) 8) 3 4
-
--- what is made of a quantifier's word and the words of its guard and its body, by a flag for each element
+-- what is made of a quantifier's word and the words of its guard and its body, by a flag for each element: `&` for `!`, `|` for `?`
 unfoldable pub instantiatedWords : ℕ → List ℕ → List Bool → List ℕ
-instantiatedWords word s flags = junctionFor word (setCount flags) ∷ copies flags (word / 16) (afterFirst s) 1
+instantiatedWords word s flags = (setCount flags * 16 + connectiveTag (junction (sideOf (eqb (word % 16) 8)))) ∷ copies flags (word / 16) (afterFirst s) 1

@@ -4,10 +4,11 @@ use borrow.Author.Needs.{needs}
 use native.Mathlib.Omega.{arith}
 use Prim.Native.Nat.{_+_, _-_, _≤_}
 use mathlib.Core.Path.{_≡_}
+use mathlib.Core.Logic.{⊎-elim}
 use lib.ListN.{take}
 use lib.Seq.{slice}
 use Rattle.formula.specs.memory.Instances.{setCount}
-use Rattle.formula.proofs.memory.Instances.{setCount-next, setCount-none}
+use Rattle.formula.proofs.memory.Instances.{setCount-set, setCount-unset, setCount-none}
 use Rattle.formula.proofs.instance.set_count.Statement.{statement}
 use Rattle.formula.proofs.instance.set_count.Tie as tie
 
@@ -20,17 +21,14 @@ abbrev μ-loop : tie.MeasureT-loop
 loop-holds : tie.Need-loop-holds Inv-loop μ-loop
 loop-holds c = (omega arith, omega arith, omega arith)
 
-cast-one-if : tie.Need-cast-one-if Inv-loop μ-loop
-cast-one-if c = search needs
+cast-if1 : tie.Need-cast-if1 Inv-loop μ-loop
+cast-if1 c = search needs
 
-array-read-one-if : tie.Need-array-read-one-if Inv-loop μ-loop
-array-read-one-if c = search needs
-
-one-if-requires : tie.Need-one-if-requires Inv-loop μ-loop
-one-if-requires c κs = search needs
+array-read-if1 : tie.Need-array-read-if1 Inv-loop μ-loop
+array-read-if1 c = search needs
 
 add-count : tie.Need-add-count Inv-loop μ-loop
-add-count c = omega (arith, c .one-if .ensures .1)
+add-count c = search needs
 
 add-i : tie.Need-add-i Inv-loop μ-loop
 add-i c = search needs
@@ -41,8 +39,11 @@ loop-less c = search needs
 loop-again : tie.Need-loop-again Inv-loop μ-loop
 loop-again c =
     let l = c .before .before .loop in
-    let z = setCount-next (c .before .before .before .args .t1) (c .before .before .before .args .domain) (l .i) (omega arith) (search needs) in
-    (omega arith, omega (arith, c .one-if .ensures .1), omega (arith, l .inv .2, c .one-if .ensures .0))
+    let n = c .before .before .before .args .domain in
+    ⊎-elim
+    (λ w. let z = setCount-set (c .before .before .before .args .t1) n (l .i) (omega arith) (search needs) (w .0 .taken) in (omega arith, omega (arith, w .1), omega (arith, l .inv .2, w .1)))
+    (λ w. let z = setCount-unset (c .before .before .before .args .t1) n (l .i) (omega arith) (search needs) (w .0 .left) in (omega arith, omega (arith, w .1), omega (arith, l .inv .2, w .1)))
+    (c .if1 .came)
 
 returns : tie.Need-returns Inv-loop μ-loop
 returns c =
@@ -57,9 +58,8 @@ set-count-spec =
     Inv-loop
     μ-loop
     loop-holds
-    cast-one-if
-    array-read-one-if
-    one-if-requires
+    cast-if1
+    array-read-if1
     add-count
     add-i
     loop-less

@@ -1,14 +1,13 @@
--- `instance::instantiated` stores the connective's word with the count of copies, and the copies of the body.
+-- `instance::store_instantiated` stores the connective's word with the count of copies, and the copies of the body.
 -- Assumes nothing.
 use borrow.Author.Needs.{needs}
 use native.Mathlib.Omega.{arith}
-use mathlib.Core.Path.{sym, ap, _∙_}
+use mathlib.Core.Path.{sym, _∙_}
 use lib.ListN.{take, getD}
 use lib.Seq.{length-take-le}
-use Rattle.formula.specs.memory.Instances.{junctionFor}
 use Rattle.formula.proofs.memory.Instances.{instantiated-stores}
-use Rattle.formula.proofs.instance.instantiated.Statement.{statement}
-use Rattle.formula.proofs.instance.instantiated.Tie as tie
+use Rattle.formula.proofs.instance.store_instantiated.Statement.{statement}
+use Rattle.formula.proofs.instance.store_instantiated.Tie as tie
 
 mul-word : tie.Need-mul-word
 mul-word c = search needs
@@ -33,8 +32,8 @@ past-requires c κs =
 set-count-requires : tie.Need-set-count-requires
 set-count-requires c κs = search needs
 
-junction-for-requires : tie.Need-junction-for-requires
-junction-for-requires c κs = search needs
+junction-word-requires : tie.Need-junction-word-requires
+junction-word-requires c κs = search needs
 
 put-requires : tie.Need-put-requires
 put-requires c κs = search needs
@@ -50,11 +49,11 @@ same-length c = search needs
 returns : tie.Need-returns
 returns c =
     let a = c .before .before .before .before .before .before .before .before .before .before .before .before .before .before .args in
-    instantiated-stores (a .at) (a .end) (c .before .before .before .before .before .before .before .before .before .before .past .result) (getD (a .work .now) (a .at) 0) (c .before .before .before .before .before .before .before .junction-for .result) (take (a .domain) (a .flags)) (omega (arith, c .before .before .before .before .before .before .before .before .before .before .before .before .before .before .pre .0)) (c .before .before .before .before .before .before .before .before .before .before .past .ensures .0)
-    (c .before .before .before .before .before .before .before .junction-for .ensures ∙ ap (junctionFor (getD (a .work .now) (a .at) 0)) (c .before .before .before .before .before .before .before .before .set-count .ensures .0)) (c .before .before .before .before .before .before .put .ensures) (c .before .before .instances .ensures)
+    instantiated-stores (a .at) (a .end) (c .before .before .before .before .before .before .before .before .before .before .past .result) (getD (a .work .now) (a .at) 0) (c .before .before .before .before .before .before .before .junction-word .result) (take (a .domain) (a .flags)) (omega (arith, c .before .before .before .before .before .before .before .before .before .before .before .before .before .before .pre .0)) (c .before .before .before .before .before .before .before .before .before .before .past .ensures .0)
+    (c .before .before .before .before .before .before .before .junction-word .ensures ∙ rw (c .before .before .before .before .before .before .before .before .before .set-count .ensures .0)) (c .before .before .before .before .before .before .put .ensures) (c .before .before .instances .ensures)
 
-pub instantiated-spec : {M : Type 1} → statement M
-instantiated-spec =
+pub store-instantiated-spec : {M : Type 1} → statement M
+store-instantiated-spec =
     tie.close
     (tie.spec
     mul-word
@@ -64,7 +63,7 @@ instantiated-spec =
     add-past
     past-requires
     set-count-requires
-    junction-for-requires
+    junction-word-requires
     put-requires
     instances-requires
     same-length

@@ -1,0 +1,105 @@
+-- `simplify::copy_others` copies the parts that are no such truth value. The invariant: what the pending parts leave is still to be stored.
+-- Assumes nothing.
+use borrow.Author.Needs.{needs}
+use native.Mathlib.Omega.{arith}
+use Prim.Native.Nat.{_≤_}
+use mathlib.Core.Path.{sym}
+use lib.Seq.{slice, length-slice, length-take-le}
+use Rattle.formula.specs.memory.Simplified.{wordsWithout}
+use Rattle.formula.proofs.memory.Storing.{Ahead, ahead-start, ahead-turn, ahead-end, ahead-length, ahead-take, ahead-slice}
+use Rattle.formula.proofs.memory.Simplified.{wordsWithout-next, wordsWithout-none, length-wordsWithout}
+use Rattle.formula.proofs.simplify.copy_others.Statement.{statement}
+use Rattle.formula.proofs.simplify.copy_others.Tie as tie
+
+abbrev Inv-loop : tie.InvT-loop
+Inv-loop work₀ at end count value to unwanted i₀ pending₀ j₀ work i pending j =
+    (i ≤ end) × Ahead work₀ to (wordsWithout value count (slice at end work₀)) work j (wordsWithout value pending (slice i end work₀))
+
+abbrev μ-loop : tie.MeasureT-loop
+μ-loop work₀ at end count value to unwanted i₀ pending₀ j₀ work i pending j = pending
+
+truth-word-requires : tie.Need-truth-word-requires Inv-loop μ-loop
+truth-word-requires c κs = search needs
+
+loop-holds : tie.Need-loop-holds Inv-loop μ-loop
+loop-holds c = (omega (arith, c .before .before .pre .0), ahead-start _ _ _)
+
+slice-reshare-prefix-peek : tie.Need-slice-reshare-prefix-peek Inv-loop μ-loop
+slice-reshare-prefix-peek c = omega (arith, c .before .before .before .before .pre .0, ahead-length (c .before .loop .inv .1))
+
+slice-aggregate-peek : tie.Need-slice-aggregate-peek Inv-loop μ-loop
+slice-aggregate-peek c = sym (length-take-le (c .before .before .before .before .before .args .end) (c .before .before .loop .work) (omega (arith, c .before .before .before .before .before .pre .0, ahead-length (c .before .before .loop .inv .1))))
+
+peek-requires : tie.Need-peek-requires Inv-loop μ-loop
+peek-requires c κs = search needs
+
+slice-reshare-prefix-past : tie.Need-slice-reshare-prefix-past Inv-loop μ-loop
+slice-reshare-prefix-past c = omega (arith, c .before .before .before .before .before .before .pre .0, ahead-length (c .before .before .before .loop .inv .1))
+
+slice-aggregate-past : tie.Need-slice-aggregate-past Inv-loop μ-loop
+slice-aggregate-past c = sym (length-take-le (c .before .before .before .before .before .before .before .args .end) (c .before .before .before .before .loop .work) (omega (arith, c .before .before .before .before .before .before .before .pre .0, ahead-length (c .before .before .before .before .loop .inv .1))))
+
+past-requires : tie.Need-past-requires Inv-loop μ-loop
+past-requires c κs =
+    let l = length-take-le (c .before .before .before .before .before .before .before .args .end) (c .before .before .before .before .loop .work) (omega (arith, c .before .before .before .before .before .before .before .pre .0, ahead-length (c .before .before .before .before .loop .inv .1))) in
+    omega (arith, c .before .before .before .before .before .before .before .pre .0, c .before .before .before .before .loop .inv)
+
+copy-unless-requires : tie.Need-copy-unless-requires Inv-loop μ-loop
+copy-unless-requires c κs =
+    let a = c .before .before .before .before .before .before .before .before .before .args in
+    let p = c .before .before .before .before .before .before .before .before .before .pre .0 in
+    let h = c .before .before .before .before .before .before .loop .inv .1 in
+    let l = length-take-le (a .end) (c .before .before .before .before .before .before .loop .work) (omega (arith, p, ahead-length h)) in
+    let range = length-slice (a .at) (a .end) (a .work .now) (omega (arith, p)) in
+    omega (arith, p, c .before .past .ensures .0, c .before .past .ensures .1, ahead-length h, h .after, h .ends, length-wordsWithout (a .value) (a .count) (slice (a .at) (a .end) (a .work .now)))
+
+sub-pending : tie.Need-sub-pending Inv-loop μ-loop
+sub-pending c = search needs
+
+loop-less : tie.Need-loop-less Inv-loop μ-loop
+loop-less c = search needs
+
+loop-again : tie.Need-loop-again Inv-loop μ-loop
+loop-again c =
+    let a = c .before .before .before .before .before .before .before .before .before .before .before .before .args in
+    let p = c .before .before .before .before .before .before .before .before .before .before .before .before .pre .0 in
+    let l = c .before .before .before .before .before .before .before .before .before .loop in
+    let h = l .inv .1 in
+    let long = length-take-le (a .end) (l .work) (omega (arith, p, ahead-length h)) in
+    let same = ahead-slice h (l .i) (a .end) (omega (arith, p)) in
+    let within : c .before .before .before .before .past .result ≤ a .end = omega (arith, c .before .before .before .before .past .ensures .1) in
+    let next = wordsWithout-next (a .value) (a .work .now) (l .i) (a .end) (l .pending) (c .before .before .before .before .past .result) (omega arith) (rw same at (c .before .before .before .before .past .ensures .0)) within in (
+      within,
+      ahead-turn h
+          (rw (ahead-slice h (l .i) (c .before .before .before .before .past .result) (omega (arith, p, within)), c .before .before .before .before .before .before .peek .ensures, ahead-take h (a .end) (omega (arith, p)), c .before .before .before .before .before .before .before .before .before .before .truth-word .ensures) next)
+          (c .before .before .copy-unless .ensures),
+    )
+
+same-length : tie.Need-same-length Inv-loop μ-loop
+same-length c = ahead-length (c .before .loop .inv .1)
+
+returns : tie.Need-returns Inv-loop μ-loop
+returns c =
+    let a = c .before .before .before .before .args in
+    ahead-end (c .before .loop .inv .1) (wordsWithout-none (a .value) (slice (c .before .loop .i) (a .end) (a .work .now)) (c .before .loop .pending) (omega arith))
+
+pub copy-others-spec : {M : Type 1} → statement M
+copy-others-spec =
+    tie.close
+    (tie.spec
+    Inv-loop
+    μ-loop
+    truth-word-requires
+    loop-holds
+    slice-reshare-prefix-peek
+    slice-aggregate-peek
+    peek-requires
+    slice-reshare-prefix-past
+    slice-aggregate-past
+    past-requires
+    copy-unless-requires
+    sub-pending
+    loop-less
+    loop-again
+    same-length
+    returns)

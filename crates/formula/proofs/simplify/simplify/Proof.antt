@@ -1,0 +1,59 @@
+-- `simplify::simplify` stores what stands before the connective, what is made of it, and what stands after it.
+-- Assumes nothing.
+use borrow.Author.Needs.{needs}
+use native.Mathlib.Omega.{arith}
+use Prim.Native.Nat.{_+_, _/_}
+use mathlib.Core.Path.{refl}
+use lib.ListN.{getD}
+use lib.Seq.{slice, length-slice}
+use Rattle.formula.specs.memory.Simplified.{simplifiedWords}
+use Rattle.formula.proofs.memory.Storing.{ahead-turn, ahead-length, theory-starts, theory-ends, place-near}
+use Rattle.formula.proofs.memory.Simplified.{simplified-kept, simplified-near}
+use Rattle.formula.proofs.simplify.simplify.Statement.{statement}
+use Rattle.formula.proofs.simplify.simplify.Tie as tie
+
+copy-requires : tie.Need-copy-requires
+copy-requires c κs = search needs
+
+store-simplified-requires : tie.Need-store-simplified-requires
+store-simplified-requires c κs =
+    omega (arith, place-near (c .before .before .before .before .before .before .pre .0) (c .before .before .before .copy .ensures), c .before .before .before .copy .kept .0, c .before .before .before .before .before .before .pre .0)
+
+copy-requires-2 : tie.Need-copy-requires-2
+copy-requires-2 c κs =
+    let a = c .before .before .before .before .before .before .before .before .before .before .args in
+    let p = c .before .before .before .before .before .before .before .before .before .before .pre .0 in
+    let old = a .work .now in
+    let new = simplifiedWords (a .every) (getD old (a .at) 0 / 16) (slice (a .at + 1) (a .end) old) in
+    let near = simplified-near (a .every) (getD old (a .at) 0 / 16) (slice (a .at + 1) (a .end) old) in
+    let long = length-slice (a .at + 1) (a .end) old (omega (arith, p)) in
+    let start = theory-starts p new (c .before .before .before .before .before .before .before .copy .ensures) in
+    let middle = simplified-kept start (a .at) (a .end) (a .every) (omega (arith, p)) (omega (arith, p)) (c .before .before .before .store-simplified .ensures) in
+    omega (arith, p, place-near p (c .before .before .before .before .before .before .before .copy .ensures), near, middle .ends, ahead-length (ahead-turn start refl middle))
+
+sub-result : tie.Need-sub-result
+sub-result c =
+    omega (arith, c .before .before .copy2 .ensures .ends, place-near (c .before .before .before .before .before .before .before .before .before .before .before .before .before .pre .0) (c .before .before .before .before .before .before .before .before .before .before .copy .ensures), c .before .before .before .before .before .before .store-simplified .ensures .ends)
+
+same-length : tie.Need-same-length
+same-length c = search needs
+
+returns : tie.Need-returns
+returns c =
+    let a = c .before .before .before .before .before .before .before .before .before .before .before .before .before .args in
+    let p = c .before .before .before .before .before .before .before .before .before .before .before .before .before .pre .0 in
+    let old = a .work .now in
+    let start = theory-starts p (simplifiedWords (a .every) (getD old (a .at) 0 / 16) (slice (a .at + 1) (a .end) old)) (c .before .before .before .before .before .before .before .before .before .before .copy .ensures) in
+    let middle = simplified-kept start (a .at) (a .end) (a .every) (omega (arith, p)) (omega (arith, p)) (c .before .before .before .before .before .before .store-simplified .ensures) in
+    theory-ends p (ahead-turn start refl middle) (c .before .before .copy2 .ensures)
+
+pub simplify-spec : {M : Type 1} → statement M
+simplify-spec =
+    tie.close
+    (tie.spec
+    copy-requires
+    store-simplified-requires
+    copy-requires-2
+    sub-result
+    same-length
+    returns)

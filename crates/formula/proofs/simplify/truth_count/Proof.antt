@@ -1,0 +1,73 @@
+-- `simplify::truth_count` counts the parts that are a truth value. The invariant: the count so far with the count of the parts that are still pending.
+-- Assumes nothing.
+use borrow.Author.Needs.{needs}
+use native.Mathlib.Omega.{arith}
+use Prim.Native.Nat.{_+_, _≤_}
+use mathlib.Core.Path.{_≡_, sym, _∙_}
+use mathlib.Core.Logic.{⊎-elim}
+use lib.ListN.{length, drop}
+use Rattle.formula.specs.memory.Simplified.{truthCount}
+use Rattle.formula.proofs.memory.Simplified.{truthCount-found, truthCount-other, truthCount-none}
+use Rattle.formula.proofs.simplify.truth_count.Statement.{statement}
+use Rattle.formula.proofs.simplify.truth_count.Tie as tie
+
+abbrev Inv-loop : tie.InvT-loop
+Inv-loop work at count value sought i₀ pending₀ found₀ i pending found =
+    (i ≤ length work) × (found + pending ≤ count) × (truthCount value count (drop at work) ≡ found + truthCount value pending (drop i work))
+
+abbrev μ-loop : tie.MeasureT-loop
+μ-loop work at count value sought i₀ pending₀ found₀ i pending found = pending
+
+truth-word-requires : tie.Need-truth-word-requires Inv-loop μ-loop
+truth-word-requires c κs = search needs
+
+loop-holds : tie.Need-loop-holds Inv-loop μ-loop
+loop-holds c = (omega arith, omega arith, omega arith)
+
+peek-requires : tie.Need-peek-requires Inv-loop μ-loop
+peek-requires c κs = search needs
+
+add-found : tie.Need-add-found Inv-loop μ-loop
+add-found c = search needs
+
+past-requires : tie.Need-past-requires Inv-loop μ-loop
+past-requires c κs = omega (arith, c .before .before .before .loop .inv)
+
+sub-pending : tie.Need-sub-pending Inv-loop μ-loop
+sub-pending c = omega arith
+
+loop-less : tie.Need-loop-less Inv-loop μ-loop
+loop-less c = omega arith
+
+loop-again : tie.Need-loop-again Inv-loop μ-loop
+loop-again c =
+    let a = c .before .before .before .before .before .before .before .args in
+    let l = c .before .before .before .before .loop in
+    ⊎-elim
+    (λ w. let z = truthCount-found (a .value) (a .work .now) (l .i) (l .pending) (omega arith) (sym (c .before .before .peek .ensures) ∙ w .0 .taken ∙ c .before .before .before .before .before .truth-word .ensures) in
+    (c .past .ensures .1, omega (arith, w .1), rw (c .past .ensures .0) (omega (arith, l .inv .2, w .1))))
+    (λ w. let z = truthCount-other (a .value) (a .work .now) (l .i) (l .pending) (omega arith) (λ e. w .0 .left (c .before .before .peek .ensures ∙ e ∙ sym (c .before .before .before .before .before .truth-word .ensures))) in
+    (c .past .ensures .1, omega (arith, w .1), rw (c .past .ensures .0) (omega (arith, l .inv .2, w .1))))
+    (c .before .if1 .came)
+
+returns : tie.Need-returns Inv-loop μ-loop
+returns c =
+    let l = c .before .loop in
+    let z = truthCount-none (c .before .before .before .before .args .value) (drop (l .i) (c .before .before .before .before .args .work .now)) (l .pending) (omega arith) in
+    (omega (arith, l .inv .2), omega arith)
+
+pub truth-count-spec : {M : Type 1} → statement M
+truth-count-spec =
+    tie.close
+    (tie.spec
+    Inv-loop
+    μ-loop
+    truth-word-requires
+    loop-holds
+    peek-requires
+    add-found
+    past-requires
+    sub-pending
+    loop-less
+    loop-again
+    returns)
