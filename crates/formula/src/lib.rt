@@ -1,16 +1,16 @@
 // Formulas: their text and reading, their meaning, and the rules on them.
+pub mod binding;
 pub mod clause;
 pub mod cursor;
+pub mod fact;
 pub mod guard;
 pub mod head;
 pub mod instance;
-pub mod binding;
-pub mod fact;
 pub mod name_table;
 pub mod print;
 pub mod scope;
+pub mod signature;
 pub mod simplify;
 pub mod store;
-pub mod signature;
 pub mod walk;
 pub mod word;
