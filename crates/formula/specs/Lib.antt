@@ -1,10 +1,1 @@
-pub mod Formula
-pub mod Text
-pub mod Reading
-pub mod Names
-pub mod Normal
-pub mod Limits
-pub mod Meaning
-pub mod Rules
-pub mod Tables
 pub mod memory

@@ -12,7 +12,7 @@ ghost use Prim.Native.Nat.{_+_, _*_, _%_, _≤_, _<_};
 ghost use lib.Dec.{eqb};
 ghost use lib.ListN.{length, drop, getD, set};
 ghost use Rattle.text.specs.memory.Table.{packed};
-ghost use Rattle.formula.specs.Meaning.{valueOf, valuesOf, connect, joinAll};
+ghost use Rattle.logic.specs.Meaning.{valueOf, valuesOf, connect, joinAll};
 ghost use Rattle.formula.specs.memory.Stored.{indexName, sideOf, connectiveOf, termOf, termsAt};
 ghost use Rattle.formula.specs.memory.Values.{valued, settledBy, settledFirst, atomAt, trueAt, truthsAt, elementAt, eachAt};
 

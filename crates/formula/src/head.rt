@@ -1,7 +1,7 @@
 // The first words of the formulas that the rules make: a truth value's, and those of `&` and `|`.
 ghost use mathlib.Core.Path.{_≡_};
 ghost use Prim.Native.Nat.{_+_, _*_, _<_};
-ghost use Rattle.formula.specs.Formula.{junction};
+ghost use Rattle.logic.specs.Formula.{junction};
 ghost use Rattle.formula.specs.memory.Stored.{sideOf};
 ghost use Rattle.formula.specs.memory.Words.{truthWord, connectiveTag};
 

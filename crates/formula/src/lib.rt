@@ -1,4 +1,4 @@
-// Formulas: their text and reading, their meaning, and the rules on them.
+// Formulas in memory: read from text, walked, evaluated, rewritten and printed.
 pub mod binding;
 pub mod clause;
 pub mod cursor;

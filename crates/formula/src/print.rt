@@ -17,7 +17,7 @@ ghost use lib.ListN.{length, getD, drop};
 ghost use Rattle.text.specs.Bytes.{joined};
 ghost use Rattle.text.specs.Numbers.{decimal};
 ghost use Rattle.text.specs.memory.Table.{tableName};
-ghost use Rattle.formula.specs.Text.{truthText};
+ghost use Rattle.logic.specs.Text.{truthText};
 ghost use Rattle.formula.specs.memory.Cursor.{Prints};
 ghost use Rattle.formula.specs.memory.ClauseText.{elementOf, elementTexts, atomText, signOpening, signClosing, opening, closing, partTexts, clauseText, clauseLines};
 

@@ -7,7 +7,7 @@ ghost use mathlib.Core.Path.{_≡_};
 ghost use mathlib.Core.Bool.{true};
 ghost use Prim.Native.Nat.{_+_, _%_, _≤_};
 ghost use lib.ListN.{length, drop, set};
-ghost use Rattle.formula.specs.Names.{termClosed};
+ghost use Rattle.logic.specs.Names.{termClosed};
 ghost use Rattle.formula.specs.memory.Stored.{indexName, termOf};
 ghost use Rattle.formula.specs.memory.Flags.{flagged, termsClosedAt, closedAt, allClosedAt};
 

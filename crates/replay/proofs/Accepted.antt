@@ -17,14 +17,14 @@ use Rattle.text.proofs.Laws.{and-left, and-right, same-refl, same-true, Each}
 use Rattle.text.proofs.Outcome.{Allowed, allowed-bind, allowed-weaken, allowed-provided, allowed-done, allowed-itself}
 use Rattle.text.proofs.Problem.{Valid, isInput-not-isOutput}
 use Rattle.text.proofs.ProblemText.{problemOf-valid}
-use Rattle.formula.specs.Formula.{Formula, truth}
-use Rattle.formula.specs.Meaning.{Structure, Extends, nowhere, holds, satisfies}
-use Rattle.formula.specs.Normal.{mentionsOnly, isClause}
-use Rattle.formula.specs.Limits.{sizesFit}
-use Rattle.formula.proofs.WellFormed.{wellFormed-parts}
-use Rattle.formula.proofs.Kept.{makesAt-kept}
-use Rattle.formula.proofs.Soundness.{makesAt-same}
-use Rattle.formula.proofs.Normal.{clause-noInput}
+use Rattle.logic.specs.Formula.{Formula, truth}
+use Rattle.logic.specs.Meaning.{Structure, Extends, nowhere, holds, satisfies}
+use Rattle.logic.specs.Normal.{mentionsOnly, isClause}
+use Rattle.logic.specs.Limits.{sizesFit}
+use Rattle.logic.proofs.WellFormed.{wellFormed-parts}
+use Rattle.logic.proofs.Kept.{makesAt-kept}
+use Rattle.logic.proofs.Soundness.{makesAt-same}
+use Rattle.logic.proofs.Normal.{clause-noInput}
 use Rattle.replay.specs.Theory.{theoryOf, formulasOf, namesOf, State, live, ended, liveTheory, initial}
 use Rattle.replay.specs.Replay.{Replayed, derivationOf, areClauses, isGround, theoryText, Ground, groundText, groundOf, footerLine}
 use Rattle.replay.specs.Answer.{room, claimed, differenceLine, grounded, replayed, checked}

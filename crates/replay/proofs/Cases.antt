@@ -11,13 +11,13 @@ use Rattle.text.specs.Reading.{word, token, readNumber, oneOf, further, separat
 use Rattle.text.specs.Lines.{Judged}
 use Rattle.text.specs.Problem.{Problem, Predicate, Row, readName}
 use Rattle.text.specs.Derivation.{Rule, SNAND, SNOR, STN, EPRED, IQ}
-use Rattle.formula.specs.Formula.{Formula, replace}
-use Rattle.formula.specs.Text.{textOf}
-use Rattle.formula.specs.Reading.{readVariable, readTerm, readEquality, readArguments, readAtom, readNegation, readTwo, readParts, readJunction, readQuantifier, formulaKinds, readFormula}
-use Rattle.formula.specs.Names.{closed}
-use Rattle.formula.specs.Normal.{isClause}
-use Rattle.formula.specs.Meaning.{holds}
-use Rattle.formula.specs.Rules.{instances, apply, at}
+use Rattle.logic.specs.Formula.{Formula, replace}
+use Rattle.logic.specs.Text.{textOf}
+use Rattle.logic.specs.Reading.{readVariable, readTerm, readEquality, readArguments, readAtom, readNegation, readTwo, readParts, readJunction, readQuantifier, formulaKinds, readFormula}
+use Rattle.logic.specs.Names.{closed}
+use Rattle.logic.specs.Normal.{isClause}
+use Rattle.logic.specs.Meaning.{holds}
+use Rattle.logic.specs.Rules.{instances, apply, at}
 use Rattle.replay.specs.Theory.{entry, live}
 use Rattle.replay.specs.Replay.{groundText, groundOf}
 

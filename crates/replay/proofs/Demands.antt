@@ -16,9 +16,9 @@ use Rattle.text.specs.Outcome.{Outcome, done, refused, _>>=_}
 use Rattle.text.specs.Problem.{Problem, problemOf, isInput}
 use Rattle.text.proofs.Laws.{same-refl, Each}
 use Rattle.text.proofs.Outcome.{Allowed, allowed-weaken, allowed-done}
-use Rattle.formula.specs.Formula.{Formula, truth}
-use Rattle.formula.specs.Normal.{mentionsOnly}
-use Rattle.formula.specs.Meaning.{Structure, Extends, satisfies}
+use Rattle.logic.specs.Formula.{Formula, truth}
+use Rattle.logic.specs.Normal.{mentionsOnly}
+use Rattle.logic.specs.Meaning.{Structure, Extends, satisfies}
 use Rattle.replay.specs.Theory.{theoryOf, ended}
 use Rattle.replay.specs.Replay.{Ground, groundText, groundOf, derivationOf}
 use Rattle.replay.specs.Answer.{grounded, replayed, checked, Result, workAfter, replayResult, checkResult}

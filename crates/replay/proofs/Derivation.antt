@@ -18,7 +18,7 @@ use Rattle.text.proofs.Laws.{and-left, and-right}
 use Rattle.text.proofs.Outcome.{Allowed, allowed-mapped, allowed-bind, allowed-weaken, allowed-done}
 use Rattle.text.proofs.Derivation.{reads-line, read-line, reads-version, read-version, reads-grounder, read-grounder}
 use Rattle.text.proofs.Lines.{Run, rest, more, run-more, RunsTo, readText-exactly}
-use Rattle.formula.specs.Formula.{Formula}
+use Rattle.logic.specs.Formula.{Formula}
 use Rattle.replay.specs.Theory.{State, initial, stepped}
 use Rattle.replay.specs.Steps.{Step, Steps, stop, go}
 use Rattle.replay.proofs.Steps.{stepped-step, step-stepped}

@@ -15,16 +15,16 @@ use Rattle.text.specs.Problem.{Problem}
 use Rattle.text.specs.Derivation.{RuleLine}
 use Rattle.text.proofs.Laws.{and-left, and-right, Each, each-weaken, each-append}
 use Rattle.text.proofs.Problem.{Valid, isOutput-small}
-use Rattle.formula.specs.Formula.{Formula, truth, connective, junction, all, Formulas, noParts, part, size, depth}
-use Rattle.formula.specs.Text.{spelled, textOf}
-use Rattle.formula.specs.Names.{none, closed, known, namesFit}
-use Rattle.formula.specs.Normal.{isGNF, hasForm, isClause}
-use Rattle.formula.specs.Limits.{guardQuantifiers, variables, theoryVariables, guardsFit, sizeTotal, sizesFit, limitsFit}
-use Rattle.formula.proofs.WellFormed.{WellFormed, ofTruth, AllWellFormed, ofNone, ofPart, wellFormed-parts, wellFormed-tested, tests-wellFormed}
-use Rattle.formula.proofs.Kept.{makesAt-kept}
-use Rattle.formula.proofs.Normal.{isClause-clause}
-use Rattle.formula.proofs.GroundSize.{length-ground}
-use Rattle.formula.proofs.Clauses.{clause-variables, clause-guards, clause-form, clause-spelled}
+use Rattle.logic.specs.Formula.{Formula, truth, connective, junction, all, Formulas, noParts, part, size, depth}
+use Rattle.logic.specs.Text.{spelled, textOf}
+use Rattle.logic.specs.Names.{none, closed, known, namesFit}
+use Rattle.logic.specs.Normal.{isGNF, hasForm, isClause}
+use Rattle.logic.specs.Limits.{guardQuantifiers, variables, theoryVariables, guardsFit, sizeTotal, sizesFit, limitsFit}
+use Rattle.logic.proofs.WellFormed.{WellFormed, ofTruth, AllWellFormed, ofNone, ofPart, wellFormed-parts, wellFormed-tested, tests-wellFormed}
+use Rattle.logic.proofs.Kept.{makesAt-kept}
+use Rattle.logic.proofs.Normal.{isClause-clause}
+use Rattle.logic.proofs.GroundSize.{length-ground}
+use Rattle.logic.proofs.Clauses.{clause-variables, clause-guards, clause-form, clause-spelled}
 use Rattle.replay.specs.Theory.{theoryOf, entry, Theory, formulasOf, numbered, State, live, ended, liveTheory, initial}
 use Rattle.replay.specs.Steps.{Step, rewriting, removing, splitting, ending, Steps, stop, go}
 use Rattle.replay.specs.Replay.{areClauses, isGround, theoryText}

@@ -17,9 +17,9 @@ use Rattle.text.specs.Derivation.{inBounds, RuleLine, rewrite, unsat, trivial, 
 use Rattle.text.proofs.Laws.{and-left, and-right}
 use Rattle.text.proofs.Refusals.{Refuses, never, only, refuses-bind, refuses-mapped, refuses-cond, refuses-weaken, outcomes, OnlyRefuses, readers}
 use Rattle.text.proofs.Refusals.{From, readText-refuses, problemOf-refuses, readLine-refuses, readVersion-refuses, readGrounder-refuses}
-use Rattle.formula.specs.Formula.{Formula, Formulas, noParts, part, Side, all, any}
-use Rattle.formula.proofs.Rules.{onJunction-cases}
-use Rattle.formula.proofs.Refusals.{readFormula-refuses, apply-refuses, at-refuses}
+use Rattle.logic.specs.Formula.{Formula, Formulas, noParts, part, Side, all, any}
+use Rattle.logic.proofs.Rules.{onJunction-cases}
+use Rattle.logic.proofs.Refusals.{readFormula-refuses, apply-refuses, at-refuses}
 use Rattle.replay.specs.Theory.{theoryLine, theoryOf, Theory, State, live, ended, inPlace, unlessEnded, wholeOnly, namedParts, splitParts, split, stepped}
 use Rattle.replay.specs.Replay.{Place, top, heading, among, bottom, Replayed, lineDone, derivationLine, wholeDerivation, derivationOf, Ground, footerLine, groundOf}
 use Rattle.replay.specs.Answer.{differenceLine, grounded, replayed, checked, answerOf}

@@ -7,9 +7,9 @@ use mathlib.Core.Bool.{Bool, true, false, _&&_, and-true, and-false}
 use Rattle.text.specs.Problem.{Problem}
 use Rattle.text.specs.Derivation.{Rule, RuleLine}
 use Rattle.text.proofs.Laws.{Each}
-use Rattle.formula.specs.Formula.{Formula, truth, connective, junction, all, Formulas, noParts, part}
-use Rattle.formula.specs.Meaning.{Structure, nowhere, holds, truths, joinAll, satisfies}
-use Rattle.formula.specs.Tables.{MakesAt}
+use Rattle.logic.specs.Formula.{Formula, truth, connective, junction, all, Formulas, noParts, part}
+use Rattle.logic.specs.Meaning.{Structure, nowhere, holds, truths, joinAll, satisfies}
+use Rattle.logic.specs.Tables.{MakesAt}
 use Rattle.replay.specs.Theory.{entry, Theory, formulasOf, State, live, ended, liveTheory}
 use Rattle.replay.specs.Steps.{Named, Step, rewriting, removing, splitting, ending, Steps, stop, go}
 use Rattle.replay.proofs.Theory.{EachPart, each-append, each-front, each-back, each-named, satisfies-append, satisfies-around, satisfies-named}

@@ -12,12 +12,12 @@ use Rattle.text.specs.Problem.{Problem}
 use Rattle.text.specs.Derivation.{Position, Rule, RuleLine, rewrite, unsat, trivial, splitc}
 use Rattle.text.proofs.Laws.{and-left, and-right}
 use Rattle.text.proofs.Outcome.{Allowed, allowed-mapped, allowed-bind, allowed-weaken, allowed-provided}
-use Rattle.formula.specs.Formula.{Formula, truth, atom, equal, connective, quantifier, Formulas, noParts, part, Side, all, any, Connective, negation, implies, impliedBy, equivalent, junction}
-use Rattle.formula.specs.Limits.{sizesFit}
-use Rattle.formula.specs.Rules.{isTruth, apply, at}
-use Rattle.formula.specs.Tables.{AtPath, MakesAt}
-use Rattle.formula.proofs.Rules.{onJunction-cases, isTruth-true}
-use Rattle.formula.proofs.Tables.{at-path, path-never, at-makes, makes-at}
+use Rattle.logic.specs.Formula.{Formula, truth, atom, equal, connective, quantifier, Formulas, noParts, part, Side, all, any, Connective, negation, implies, impliedBy, equivalent, junction}
+use Rattle.logic.specs.Limits.{sizesFit}
+use Rattle.logic.specs.Rules.{isTruth, apply, at}
+use Rattle.logic.specs.Tables.{AtPath, MakesAt}
+use Rattle.logic.proofs.Rules.{onJunction-cases, isTruth-true}
+use Rattle.logic.proofs.Tables.{at-path, path-never, at-makes, makes-at}
 use Rattle.replay.specs.Theory.{Entry, entry, Theory, formulasOf, State, live, ended, liveTheory, greatestUsed, inPlace, unlessEnded, wholeOnly, removed, refuted, namedParts, splitParts, split, climbing, highest, within, stepped}
 use Rattle.replay.specs.Steps.{position, absent, Named, nobody, somebody, Step, rewriting, removing, splitting, ending}
 

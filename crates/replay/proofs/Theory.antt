@@ -5,8 +5,8 @@ use mathlib.Core.Path.{_≡_, refl, sym, ap, _∙_}
 use mathlib.Core.List.{List, [], _∷_, _++_}
 use mathlib.Core.Bool.{Bool, true, false, _&&_, and-assoc, and-false}
 use Rattle.text.proofs.Laws.{Each}
-use Rattle.formula.specs.Formula.{Formula, Formulas, noParts, part, all}
-use Rattle.formula.specs.Meaning.{Structure, nowhere, holds, truths, joinAll, satisfies}
+use Rattle.logic.specs.Formula.{Formula, Formulas, noParts, part, all}
+use Rattle.logic.specs.Meaning.{Structure, nowhere, holds, truths, joinAll, satisfies}
 use Rattle.replay.specs.Theory.{Entry, entry, Theory, formulasOf}
 use Rattle.replay.specs.Steps.{Named, nobody, somebody}
 

@@ -16,12 +16,12 @@ use Rattle.text.proofs.Laws.{and-left, Each, each-append}
 use Rattle.text.proofs.Outcome.{Allowed, allowed-weaken}
 use Rattle.text.proofs.Reading.{Reads, reads-then, reads-give, reads-weaken, reads-word, reads-require, read-word}
 use Rattle.text.proofs.Lines.{readText-reads, Run, rest, run-more, RunsTo, readText-exactly}
-use Rattle.formula.specs.Formula.{Formula}
-use Rattle.formula.specs.Text.{textOf}
-use Rattle.formula.specs.Names.{namesFit}
-use Rattle.formula.specs.Normal.{isGNF}
-use Rattle.formula.specs.Limits.{limitsFit, sizesFit}
-use Rattle.formula.proofs.Reading.{FitsIn, reads-formula, read-formula}
+use Rattle.logic.specs.Formula.{Formula}
+use Rattle.logic.specs.Text.{textOf}
+use Rattle.logic.specs.Names.{namesFit}
+use Rattle.logic.specs.Normal.{isGNF}
+use Rattle.logic.specs.Limits.{limitsFit, sizesFit}
+use Rattle.logic.proofs.Reading.{FitsIn, reads-formula, read-formula}
 use Rattle.replay.specs.Theory.{theoryLine, theoryOf}
 use Rattle.replay.specs.Replay.{theoryText}
 

@@ -9,8 +9,8 @@ use Rattle.text.specs.Bytes.{Bytes}
 use Rattle.text.specs.Outcome.{Outcome, done}
 use Rattle.text.specs.Problem.{Problem, problemOf}
 use Rattle.text.specs.Derivation.{Derivation, derivationFits, derivationText}
-use Rattle.formula.specs.Formula.{Formula}
-use Rattle.formula.specs.Meaning.{Structure, Extends, satisfies}
+use Rattle.logic.specs.Formula.{Formula}
+use Rattle.logic.specs.Meaning.{Structure, Extends, satisfies}
 use Rattle.replay.specs.Theory.{State, formulasOf, namesOf, liveTheory, initial, theoryOf}
 use Rattle.replay.specs.Steps.{Steps}
 use Rattle.replay.specs.Replay.{isGround, theoryText}

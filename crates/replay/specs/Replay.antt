@@ -10,9 +10,9 @@ use Rattle.text.specs.Reading as reading
 use Rattle.text.specs.Lines.{Judged, refusal, onLine, readText}
 use Rattle.text.specs.Problem.{Problem}
 use Rattle.text.specs.Derivation.{Line, step, footer, readLine, readVersion, readGrounder}
-use Rattle.formula.specs.Formula.{Formula}
-use Rattle.formula.specs.Text.{textOf}
-use Rattle.formula.specs.Normal.{isClause}
+use Rattle.logic.specs.Formula.{Formula}
+use Rattle.logic.specs.Text.{textOf}
+use Rattle.logic.specs.Normal.{isClause}
 use Rattle.replay.specs.Theory.{formulasOf, namesOf, State, live, ended, liveTheory, initial, stepped}
 
 -- before the version line; before the grounder's; among the rule lines, of which so many are done; after the footer

@@ -6,9 +6,9 @@ use mathlib.Core.Bool.{Bool, true, false, not, _&&_}
 use lib.Dec.{eqb}
 use Rattle.text.specs.Problem.{Problem}
 use Rattle.text.specs.Derivation.{Position, Rule, RuleLine, rewrite, unsat, trivial, splitc}
-use Rattle.formula.specs.Formula.{Formula, truth, connective, junction, all, Formulas, noParts, part}
-use Rattle.formula.specs.Limits.{sizesFit}
-use Rattle.formula.specs.Tables.{MakesAt}
+use Rattle.logic.specs.Formula.{Formula, truth, connective, junction, all, Formulas, noParts, part}
+use Rattle.logic.specs.Limits.{sizesFit}
+use Rattle.logic.specs.Tables.{MakesAt}
 use Rattle.replay.specs.Theory.{Theory, entry, formulasOf, State, live, ended, climbing, highest}
 
 abbrev pub position : ℕ → List ℕ → Position

@@ -12,12 +12,12 @@ use Rattle.text.specs.Reading as reading
 use Rattle.text.specs.Lines.{Judged, readText}
 use Rattle.text.specs.Problem.{Problem}
 use Rattle.text.specs.Derivation.{Position, RuleLine, rewrite, unsat, trivial, splitc}
-use Rattle.formula.specs.Formula.{Formula, truth, Formulas, noParts, part, Side, all, any}
-use Rattle.formula.specs.Reading.{readFormula}
-use Rattle.formula.specs.Names.{namesFit}
-use Rattle.formula.specs.Normal.{isGNF}
-use Rattle.formula.specs.Limits.{limitsFit, sizesFit}
-use Rattle.formula.specs.Rules.{onJunction, isTruth, apply, at}
+use Rattle.logic.specs.Formula.{Formula, truth, Formulas, noParts, part, Side, all, any}
+use Rattle.logic.specs.Reading.{readFormula}
+use Rattle.logic.specs.Names.{namesFit}
+use Rattle.logic.specs.Normal.{isGNF}
+use Rattle.logic.specs.Limits.{limitsFit, sizesFit}
+use Rattle.logic.specs.Rules.{onJunction, isTruth, apply, at}
 
 -- Its text: one formula a line, with 5 to 9.
 

@@ -10,7 +10,7 @@ use lib.ListN.{length, getD, take, drop, set}
 use lib.Seq.{getD-set-same, getD-set-other}
 use Rattle.text.specs.Bytes.{Bytes, same, member}
 use Rattle.text.specs.Problem.{Name}
-use Rattle.formula.specs.Names.{none, besides}
+use Rattle.logic.specs.Names.{none, besides}
 use Rattle.formula.specs.declared.binding.Scope.{Scope}
 use Rattle.formula.specs.memory.Bindings.{scopeName, namesBelow, boundIn, Binds}
 

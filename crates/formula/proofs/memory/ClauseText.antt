@@ -15,10 +15,10 @@ use Rattle.text.specs.memory.Table.{tableName}
 use Rattle.text.specs.declared.table.Table.{Table}
 use Rattle.text.proofs.Laws.{Each}
 use Rattle.text.proofs.Places.{next-within}
-use Rattle.formula.specs.Formula.{element, variable, Terms, noTerms, term, termCount, any, Connective, negation, junction}
-use Rattle.formula.specs.Formula.{Formula, truth, atom, connective, Formulas, noParts, part, partsOf, depth, depths}
-use Rattle.formula.specs.Text.{termTexts, bracketed, argumentsText, truthText, textOf, textsOf}
-use Rattle.formula.specs.Normal.{elementsOnly, isClause}
+use Rattle.logic.specs.Formula.{element, variable, Terms, noTerms, term, termCount, any, Connective, negation, junction}
+use Rattle.logic.specs.Formula.{Formula, truth, atom, connective, Formulas, noParts, part, partsOf, depth, depths}
+use Rattle.logic.specs.Text.{termTexts, bracketed, argumentsText, truthText, textOf, textsOf}
+use Rattle.logic.specs.Normal.{elementsOnly, isClause}
 use Rattle.formula.specs.memory.Kinds.{kindOf, skip}
 use Rattle.formula.specs.memory.Words.{truthWord, partTotal, words}
 use Rattle.formula.specs.memory.ClauseText.{elementOf, elementTexts, argumentsAt, signOpening, signClosing, partTexts, atomText, opening, kindText, clauseText, clauseLines}
@@ -26,7 +26,7 @@ use Rattle.formula.specs.declared.word.Sign.{Sign}
 use Rattle.formula.specs.declared.word.Sign.the-variants.{Junction}
 use Rattle.formula.specs.declared.word.Kind.{Kind}
 use Rattle.formula.specs.declared.word.Kind.the-variants as kind
-use Rattle.formula.proofs.Normal.{Clause, positive, negative, disjunction, Clauses, noClauses, clause, isClause-clause}
+use Rattle.logic.proofs.Normal.{Clause, positive, negative, disjunction, Clauses, noClauses, clause, isClause-clause}
 use Rattle.formula.proofs.memory.Naming.{Naming, wordsIn, allWordsIn, termWordsIn, TermsStorable, Storable, AllStorable}
 use Rattle.formula.proofs.memory.Words.{signOf, kind-truth, kind-connective, kind-atom, afterFirst-words}
 

@@ -13,9 +13,9 @@ use lib.Seq.{drop-drop, drop-cons}
 use Rattle.text.specs.Problem.{Name, Problem, isOutput}
 use Rattle.text.specs.declared.table.Table.{Table}
 use Rattle.text.proofs.Places.{next-within}
-use Rattle.formula.specs.Formula.{element, variable, Terms, noTerms, term, termCount, all, any, Connective, negation, implies, impliedBy, equivalent, junction}
-use Rattle.formula.specs.Formula.{Formula, truth, atom, equal, connective, quantifier, Formulas, noParts, part, depth, depths}
-use Rattle.formula.specs.Normal.{elementsOnly, isGroundAtom, connectiveClause, isClause, allClauses}
+use Rattle.logic.specs.Formula.{element, variable, Terms, noTerms, term, termCount, all, any, Connective, negation, implies, impliedBy, equivalent, junction}
+use Rattle.logic.specs.Formula.{Formula, truth, atom, equal, connective, quantifier, Formulas, noParts, part, depth, depths}
+use Rattle.logic.specs.Normal.{elementsOnly, isGroundAtom, connectiveClause, isClause, allClauses}
 use Rattle.formula.specs.memory.Kinds.{kindOf, skip}
 use Rattle.formula.specs.memory.Words.{partTotal, words}
 use Rattle.formula.specs.memory.Clauses.{isElementWord, elementsAt, allAt, isOutputIndex, groundAtomBy, groundAtomAt, connectiveClauseAt, clauseBy, clauseAt}

@@ -17,12 +17,12 @@ use Rattle.text.proofs.Laws.{and-left, and-right}
 use Rattle.text.proofs.Problem.{Valid}
 use Rattle.text.proofs.Packing.{Digits}
 use Rattle.text.proofs.Tables.{isInput-in, given-in, declared-in}
-use Rattle.formula.specs.Formula.{Term, element, variable, Terms, noTerms, term, termCount}
-use Rattle.formula.specs.Formula.{Formula, truth, atom, equal, connective, quantifier, Formulas, noParts, part, depth}
-use Rattle.formula.specs.Names.{known, allKnown}
-use Rattle.formula.specs.Normal.{mentionsOnly, allMentionOnly, inputsOnly}
-use Rattle.formula.specs.Meaning.{Structure, inputStructure, Environment, nowhere, bind, valueOf, valuesOf, joinAll, connect, guarded, countFrom, elementsTo, holds, truths}
-use Rattle.formula.specs.Rules.{admits}
+use Rattle.logic.specs.Formula.{Term, element, variable, Terms, noTerms, term, termCount}
+use Rattle.logic.specs.Formula.{Formula, truth, atom, equal, connective, quantifier, Formulas, noParts, part, depth}
+use Rattle.logic.specs.Names.{known, allKnown}
+use Rattle.logic.specs.Normal.{mentionsOnly, allMentionOnly, inputsOnly}
+use Rattle.logic.specs.Meaning.{Structure, inputStructure, Environment, nowhere, bind, valueOf, valuesOf, joinAll, connect, guarded, countFrom, elementsTo, holds, truths}
+use Rattle.logic.specs.Rules.{admits}
 use Rattle.formula.specs.memory.Values.{valued, tableStructure, trueAt}
 use Rattle.formula.proofs.memory.Naming.{Naming, wordsIn, TermStorable, TermsStorable, Storable, AllStorable, VariableListed}
 use Rattle.formula.proofs.memory.Values.{valued-set}

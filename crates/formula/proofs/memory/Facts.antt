@@ -8,12 +8,12 @@ use mathlib.Core.Path.{_≡_, refl, sym, ap, ap₂, _∙_}
 use mathlib.Core.List.{List, [], _∷_, _++_}
 use mathlib.Core.Bool.{Bool, true, false, _&&_, and-true, and-assoc, false≢true}
 use Rattle.text.specs.Problem.{Name, Problem, predicates, declared, isInput}
-use Rattle.formula.specs.Formula.{Terms, termCount, Side, all, any, Connective, negation, implies, impliedBy, equivalent, junction}
-use Rattle.formula.specs.Formula.{Term, Formula, truth, atom, equal, connective, quantifier, Formulas, noParts, part, partsOf, size, sizes}
-use Rattle.formula.specs.Text.{takes}
-use Rattle.formula.specs.Names.{termKnown, termsKnown, known, allKnown, besides, termClosed, termsClosed, closed, allClosed}
-use Rattle.formula.specs.Normal.{mentionsOnly, isSimple, hasForm}
-use Rattle.formula.specs.Limits.{quantifiers, mostQuantifiers, guardQuantifiers}
+use Rattle.logic.specs.Formula.{Terms, termCount, Side, all, any, Connective, negation, implies, impliedBy, equivalent, junction}
+use Rattle.logic.specs.Formula.{Term, Formula, truth, atom, equal, connective, quantifier, Formulas, noParts, part, partsOf, size, sizes}
+use Rattle.logic.specs.Text.{takes}
+use Rattle.logic.specs.Names.{termKnown, termsKnown, known, allKnown, besides, termClosed, termsClosed, closed, allClosed}
+use Rattle.logic.specs.Normal.{mentionsOnly, isSimple, hasForm}
+use Rattle.logic.specs.Limits.{quantifiers, mostQuantifiers, guardQuantifiers}
 use Rattle.formula.specs.declared.fact.Facts.{Facts}
 use Rattle.formula.specs.memory.Facts.{factsOf, allFactsOf, simpleFacts, beside, connectiveFacts, quantifierFacts}
 

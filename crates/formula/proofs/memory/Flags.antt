@@ -12,7 +12,7 @@ use lib.ListN.{length, getD, drop, set, List·getD-eq-default}
 use lib.Seq.{drop-drop, getD-set-same, getD-set-other}
 use Rattle.text.specs.Problem.{Name}
 use Rattle.text.proofs.Places.{next-within}
-use Rattle.formula.specs.Names.{besides, termClosed, termsClosed, closed, allClosed}
+use Rattle.logic.specs.Names.{besides, termClosed, termsClosed, closed, allClosed}
 use Rattle.formula.specs.memory.Kinds.{kindOf, kindBy, skip}
 use Rattle.formula.specs.memory.Stored.{indexName, stored, termOf, termsAt, partsBy, formulaBy, formulaAt}
 use Rattle.formula.specs.memory.Flags.{flagged, closedAt, allClosedAt, termsClosedAt}

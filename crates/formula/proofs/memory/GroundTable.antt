@@ -16,9 +16,9 @@ use Rattle.text.specs.declared.table.Table.{Table}
 use Rattle.text.proofs.Laws.{and-right}
 use Rattle.text.proofs.Problem.{Valid}
 use Rattle.text.proofs.Tables.{length-indexed, isOutput-in}
-use Rattle.formula.specs.Formula.{Formula, depth}
-use Rattle.formula.specs.Text.{textOf}
-use Rattle.formula.specs.Normal.{isClause}
+use Rattle.logic.specs.Formula.{Formula, depth}
+use Rattle.logic.specs.Text.{textOf}
+use Rattle.logic.specs.Normal.{isClause}
 use Rattle.formula.specs.memory.Clauses.{isOutputIndex, clauseAt}
 use Rattle.formula.specs.memory.ClauseText.{clauseText}
 use Rattle.formula.proofs.memory.Naming.{Naming, wordsIn, Storable}

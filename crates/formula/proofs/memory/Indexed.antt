@@ -11,9 +11,9 @@ use lib.ListN.{length, getD, set, replicate, length-replicate, getD-replicate}
 use Rattle.text.specs.Bytes.{same}
 use Rattle.text.specs.Problem.{Name}
 use Rattle.text.proofs.Laws.{same-refl, same-true}
-use Rattle.formula.specs.Formula.{Term, element, variable, Terms, noTerms, term, termCount}
-use Rattle.formula.specs.Formula.{Formula, truth, atom, equal, connective, quantifier, Formulas, noParts, part, depth, depths}
-use Rattle.formula.specs.Names.{none, besides, termClosed, termsClosed, closed, allClosed, closedBut}
+use Rattle.logic.specs.Formula.{Term, element, variable, Terms, noTerms, term, termCount}
+use Rattle.logic.specs.Formula.{Formula, truth, atom, equal, connective, quantifier, Formulas, noParts, part, depth, depths}
+use Rattle.logic.specs.Names.{none, besides, termClosed, termsClosed, closed, allClosed, closedBut}
 use Rattle.formula.specs.memory.Words.{partTotal, termWord, words}
 use Rattle.formula.specs.memory.Stored.{indexName, stored}
 use Rattle.formula.specs.memory.Flags.{flagged, closedAt}

@@ -13,8 +13,8 @@ use lib.Seq.{drop-drop, take-append-seam, drop-append-seam}
 use Rattle.text.specs.Outcome.{Outcome, done, refused, mapped}
 use Rattle.text.specs.Problem.{Name}
 use Rattle.text.proofs.Places.{next-within}
-use Rattle.formula.specs.Formula.{Side, Connective, Formula, truth, atom, equal, connective, quantifier, Formulas, noParts, part, depth, depths, size, termCount}
-use Rattle.formula.specs.Rules.{Rewriting, intoParts, into, at}
+use Rattle.logic.specs.Formula.{Side, Connective, Formula, truth, atom, equal, connective, quantifier, Formulas, noParts, part, depth, depths, size, termCount}
+use Rattle.logic.specs.Rules.{Rewriting, intoParts, into, at}
 use Rattle.formula.specs.memory.Kinds.{kindOf, skip}
 use Rattle.formula.specs.memory.Words.{connectiveTag, quantifierTag, partTotal, words}
 use Rattle.formula.specs.memory.Paths.{subformulaCount, placeBelow, placeOf, onward}

@@ -12,7 +12,7 @@ use lib.Dec.{eqb}
 use lib.ListN.{length, getD, take, length-append, length-take, length-drop}
 use lib.Seq.{slice, slice-empty, slice-cons, drop-drop}
 use Rattle.formula.specs.memory.Kinds.{kindOf, partCount, skip}
-use Rattle.formula.specs.Formula.{junction}
+use Rattle.logic.specs.Formula.{junction}
 use Rattle.formula.specs.memory.Words.{connectiveTag}
 use Rattle.formula.specs.memory.Stored.{sideOf, afterFirst}
 use Rattle.formula.specs.memory.Storing.{Stores}

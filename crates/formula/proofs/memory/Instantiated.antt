@@ -11,9 +11,9 @@ use lib.Dec.{eqb}
 use lib.ListN.{length, getD, drop}
 use lib.Seq.{slice}
 use Rattle.text.specs.Problem.{Name, Problem}
-use Rattle.formula.specs.Formula.{Side, all, any, Formula, quantifier, Formulas, part, size, replace}
-use Rattle.formula.specs.Meaning.{countFrom, elementsTo}
-use Rattle.formula.specs.Rules.{admits, instances, instantiated}
+use Rattle.logic.specs.Formula.{Side, all, any, Formula, quantifier, Formulas, part, size, replace}
+use Rattle.logic.specs.Meaning.{countFrom, elementsTo}
+use Rattle.logic.specs.Rules.{admits, instances, instantiated}
 use Rattle.formula.specs.memory.Words.{quantifierTag, partTotal, words}
 use Rattle.formula.specs.memory.Stored.{sideOf}
 use Rattle.formula.specs.memory.Instances.{wordsWith, copies, setCount, instantiatedWords}

@@ -9,14 +9,14 @@ use Rattle.text.specs.Problem.{Name, Problem}
 use Rattle.text.specs.Derivation.{Rule}
 use Rattle.text.proofs.Outcome.{Allowed, allowed-weaken}
 use Rattle.text.proofs.Laws.{Each}
-use Rattle.formula.specs.Formula.{Term, element, variable, Terms, noTerms, term, Side, replaceTerm, replaceTerms, replace, replaces}
-use Rattle.formula.specs.Formula.{Formula, truth, atom, equal, connective, quantifier, Formulas, noParts, part}
-use Rattle.formula.specs.Meaning.{unit, countFrom, elementsTo}
-use Rattle.formula.specs.Rules.{isTruth, without, unlessNone, admits, instances, apply, at}
-use Rattle.formula.specs.Tables.{Makes, absorbing, dropping, negating, predicate, equality, proposition, instantiating}
-use Rattle.formula.specs.Tables.{Exchanged, first, later, MakesAt, here, inPart, inGuard, inBody}
-use Rattle.formula.proofs.Tables.{at-makes}
-use Rattle.formula.proofs.Kept.{termCount-replace}
+use Rattle.logic.specs.Formula.{Term, element, variable, Terms, noTerms, term, Side, replaceTerm, replaceTerms, replace, replaces}
+use Rattle.logic.specs.Formula.{Formula, truth, atom, equal, connective, quantifier, Formulas, noParts, part}
+use Rattle.logic.specs.Meaning.{unit, countFrom, elementsTo}
+use Rattle.logic.specs.Rules.{isTruth, without, unlessNone, admits, instances, apply, at}
+use Rattle.logic.specs.Tables.{Makes, absorbing, dropping, negating, predicate, equality, proposition, instantiating}
+use Rattle.logic.specs.Tables.{Exchanged, first, later, MakesAt, here, inPart, inGuard, inBody}
+use Rattle.logic.proofs.Tables.{at-makes}
+use Rattle.logic.proofs.Kept.{termCount-replace}
 use Rattle.formula.proofs.memory.Naming.{Naming, TermStorable, TermsStorable, Storable, AllStorable}
 
 each-countFrom : (n k m : ℕ) → k + m ≤ n → Each (λ v. v < n) (countFrom k m)

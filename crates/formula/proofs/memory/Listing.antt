@@ -16,10 +16,10 @@ use Rattle.text.specs.declared.table.Table.{Table}
 use Rattle.text.proofs.Laws.{Each, and-left, and-right, same-true}
 use Rattle.text.proofs.Problem.{Small, Valid}
 use Rattle.text.proofs.Tables.{map-indexed, predicates-in}
-use Rattle.formula.specs.Formula.{Term, element, variable, Terms, noTerms, term, termCount}
-use Rattle.formula.specs.Formula.{Formula, truth, atom, equal, connective, quantifier, Formulas, noParts, part}
-use Rattle.formula.specs.Names.{termKnown, termsKnown, known, allKnown}
-use Rattle.formula.specs.Limits.{termVariables, termsVariables, variables, allVariables}
+use Rattle.logic.specs.Formula.{Term, element, variable, Terms, noTerms, term, termCount}
+use Rattle.logic.specs.Formula.{Formula, truth, atom, equal, connective, quantifier, Formulas, noParts, part}
+use Rattle.logic.specs.Names.{termKnown, termsKnown, known, allKnown}
+use Rattle.logic.specs.Limits.{termVariables, termsVariables, variables, allVariables}
 use Rattle.formula.proofs.memory.Naming.{Naming, Listed, TermStorable, TermsStorable, Storable, AllStorable}
 
 -- a name's place

@@ -17,7 +17,7 @@ use Rattle.text.specs.Bytes.{Bytes, same, member}
 use Rattle.text.specs.Problem.{Name}
 use Rattle.text.specs.memory.Table.{position, indexed}
 use Rattle.text.proofs.Laws.{or-left, or-right, same-refl, Each, each-weaken}
-use Rattle.formula.specs.Limits.{namesShort}
+use Rattle.logic.specs.Limits.{namesShort}
 use Rattle.formula.specs.memory.NameTable.{settled, extended, extendedBy, indexIn, nameIn, namesIn, withName, Listed, listFits}
 
 -- Places and members of a list.

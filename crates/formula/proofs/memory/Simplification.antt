@@ -10,10 +10,10 @@ use borrow.Author.Tests.{ne-eqb}
 use lib.Dec.{eqb}
 use lib.ListN.{length, getD, take, drop}
 use lib.Seq.{slice, take-append-seam}
-use Rattle.formula.specs.Formula.{Side, all, any, Connective, negation, implies, impliedBy, equivalent, junction, termCount}
-use Rattle.formula.specs.Formula.{Formula, truth, atom, equal, connective, quantifier, Formulas, noParts, part, size}
-use Rattle.formula.specs.Meaning.{unit}
-use Rattle.formula.specs.Rules.{isTruth, hasTruth, without, unlessNone, simplified}
+use Rattle.logic.specs.Formula.{Side, all, any, Connective, negation, implies, impliedBy, equivalent, junction, termCount}
+use Rattle.logic.specs.Formula.{Formula, truth, atom, equal, connective, quantifier, Formulas, noParts, part, size}
+use Rattle.logic.specs.Meaning.{unit}
+use Rattle.logic.specs.Rules.{isTruth, hasTruth, without, unlessNone, simplified}
 use Rattle.formula.specs.memory.Kinds.{skip}
 use Rattle.formula.specs.memory.Words.{truthWord, connectiveTag, quantifierTag, partTotal, words}
 use Rattle.formula.specs.memory.Stored.{sideOf}

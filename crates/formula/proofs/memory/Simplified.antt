@@ -13,7 +13,7 @@ use lib.ListN.{length, getD, take, drop, length-append, length-take, length-drop
 use lib.Seq.{slice, drop-drop, take-take}
 use Rattle.text.proofs.Places.{next-within}
 use Rattle.formula.specs.memory.Kinds.{skip}
-use Rattle.formula.specs.Formula.{junction}
+use Rattle.logic.specs.Formula.{junction}
 use Rattle.formula.specs.memory.Words.{truthWord, connectiveTag}
 use Rattle.formula.specs.memory.Stored.{sideOf, afterFirst}
 use Rattle.formula.specs.memory.Storing.{Stores}

@@ -7,8 +7,8 @@ use mathlib.Core.Path.{_≡_, refl, ap, ap₂, _∙_}
 use mathlib.Core.List.{List, _∷_, _++_, append-assoc}
 use mathlib.Core.Bool.{Bool}
 use borrow.Author.Tests.{eq-eqb, ne-eqb}
-use Rattle.formula.specs.Formula.{Term, element, variable, Terms, noTerms, term, termCount, Side, all, any, Connective, negation, implies, impliedBy, equivalent, junction}
-use Rattle.formula.specs.Formula.{Formula, truth, atom, equal, connective, quantifier, Formulas, noParts, part, depth, depths}
+use Rattle.logic.specs.Formula.{Term, element, variable, Terms, noTerms, term, termCount, Side, all, any, Connective, negation, implies, impliedBy, equivalent, junction}
+use Rattle.logic.specs.Formula.{Formula, truth, atom, equal, connective, quantifier, Formulas, noParts, part, depth, depths}
 use Rattle.formula.specs.memory.Kinds.{kindOf}
 use Rattle.formula.specs.memory.Words.{partTotal, termWord, words}
 use Rattle.formula.specs.memory.Stored.{afterFirst, termOf, termsAt, partsBy, formulaBy, formulaAt}

@@ -14,7 +14,7 @@ use Rattle.text.specs.Problem.{Name}
 use Rattle.text.specs.memory.Table.{packed}
 use Rattle.text.specs.declared.table.Table.{Table}
 use Rattle.text.proofs.Places.{next-within}
-use Rattle.formula.specs.Meaning.{Environment, bind, valueOf, valuesOf, unit, join, joinAll, connect, guarded, countFrom, elementsTo, holds}
+use Rattle.logic.specs.Meaning.{Environment, bind, valueOf, valuesOf, unit, join, joinAll, connect, guarded, countFrom, elementsTo, holds}
 use Rattle.formula.specs.memory.Kinds.{kindOf, kindBy, skip}
 use Rattle.formula.specs.memory.Stored.{indexName, stored, afterFirst, sideOf, connectiveOf, termOf, termsAt, partsBy, formulaBy, formulaAt}
 use Rattle.formula.specs.memory.Values.{valued, settledBy, settledFirst, tableStructure, atomAt, trueAt, truthsAt, elementAt, eachAt}

@@ -13,7 +13,7 @@ use Rattle.text.specs.Sizes.{nameSize, variableCount}
 use Rattle.text.specs.Bytes.{same, member}
 use Rattle.text.specs.Problem.{Name}
 use Rattle.text.proofs.Laws.{same-refl, same-true}
-use Rattle.formula.specs.Limits.{differentCount, namesShort}
+use Rattle.logic.specs.Limits.{differentCount, namesShort}
 use Rattle.formula.specs.memory.NameTable.{settled, extended, extendedBy, listFits}
 use Rattle.formula.proofs.memory.NameTable.{member-append}
 

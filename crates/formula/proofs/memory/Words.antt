@@ -10,8 +10,8 @@ use mathlib.Core.Bool.{Bool, true, false}
 use lib.ListN.{length, length-append}
 use lib.Seq.{drop-append-seam}
 use Rattle.text.specs.Problem.{Name}
-use Rattle.formula.specs.Formula.{Term, element, variable, Terms, noTerms, term, termCount, Side, all, any, Connective, negation, implies, impliedBy, equivalent, junction}
-use Rattle.formula.specs.Formula.{Formula, truth, atom, equal, connective, quantifier, Formulas, noParts, part, size, sizes}
+use Rattle.logic.specs.Formula.{Term, element, variable, Terms, noTerms, term, termCount, Side, all, any, Connective, negation, implies, impliedBy, equivalent, junction}
+use Rattle.logic.specs.Formula.{Formula, truth, atom, equal, connective, quantifier, Formulas, noParts, part, size, sizes}
 use Rattle.formula.specs.memory.Kinds.{kindOf, kindBy, partCount, skip}
 use Rattle.formula.specs.memory.Words.{truthWord, connectiveTag, quantifierTag, partTotal, termWord, termWords, words}
 use Rattle.formula.specs.memory.Stored.{afterFirst}

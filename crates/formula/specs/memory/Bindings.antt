@@ -6,7 +6,7 @@ use mathlib.Core.Bool.{Bool}
 use lib.ListN.{getD, take, drop}
 use Rattle.text.specs.Bytes.{Bytes, member}
 use Rattle.text.specs.Problem.{Name}
-use Rattle.formula.specs.Names.{besides}
+use Rattle.logic.specs.Names.{besides}
 use Rattle.formula.specs.declared.binding.Scope.{Scope}
 
 abbrev pub scopeName : Bytes → Scope → ℕ → Name

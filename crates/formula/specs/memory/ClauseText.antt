@@ -7,7 +7,7 @@ use Rattle.text.specs.Bytes.{Bytes, bytes, joined}
 use Rattle.text.specs.Numbers.{decimal}
 use Rattle.text.specs.memory.Table.{tableName}
 use Rattle.text.specs.declared.table.Table.{Table}
-use Rattle.formula.specs.Text.{truthText, bracketed}
+use Rattle.logic.specs.Text.{truthText, bracketed}
 use Rattle.formula.specs.memory.Kinds.{kindOf}
 use Rattle.formula.specs.memory.Stored.{afterFirst}
 use Rattle.formula.specs.memory.Paths.{subformulaCount}

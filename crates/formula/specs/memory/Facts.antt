@@ -2,10 +2,10 @@
 use Prim.Native.Nat.{ℕ, suc, _+_, max}
 use mathlib.Core.Bool.{Bool, true, false, _&&_}
 use Rattle.text.specs.Problem.{Name, Problem, isInput}
-use Rattle.formula.specs.Formula.{Side, all, any, Connective, negation, implies, impliedBy, equivalent, junction, Formula, Formulas, noParts, part}
-use Rattle.formula.specs.Names.{known, allKnown, closed, allClosed}
-use Rattle.formula.specs.Normal.{allMentionOnly, inputsOnly, isSimple, hasForm, allHaveForm}
-use Rattle.formula.specs.Limits.{quantifiers, mostQuantifiers, guardQuantifiers, mostGuardQuantifiers}
+use Rattle.logic.specs.Formula.{Side, all, any, Connective, negation, implies, impliedBy, equivalent, junction, Formula, Formulas, noParts, part}
+use Rattle.logic.specs.Names.{known, allKnown, closed, allClosed}
+use Rattle.logic.specs.Normal.{allMentionOnly, inputsOnly, isSimple, hasForm, allHaveForm}
+use Rattle.logic.specs.Limits.{quantifiers, mostQuantifiers, guardQuantifiers, mostGuardQuantifiers}
 use Rattle.formula.specs.declared.fact.Facts.{Facts}
 
 abbrev pub allSimple : Formulas → Bool

@@ -4,7 +4,7 @@ use mathlib.Core.List.{List, [], _∷_}
 use mathlib.Core.Bool.{Bool, false}
 use lib.ListN.{getD}
 use Rattle.text.specs.Problem.{Name}
-use Rattle.formula.specs.Names.{termsClosed, closed, allClosed}
+use Rattle.logic.specs.Names.{termsClosed, closed, allClosed}
 use Rattle.formula.specs.memory.Stored.{indexName, stored, termsAt, partsBy}
 
 -- the test of variables that flags stand for

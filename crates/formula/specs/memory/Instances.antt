@@ -4,7 +4,7 @@ use mathlib.Core.List.{List, [], _∷_, _++_}
 use mathlib.Core.Bool.{Bool, cond, _||_}
 use lib.Dec.{eqb}
 use Rattle.formula.specs.memory.Kinds.{kindOf, partCount}
-use Rattle.formula.specs.Formula.{junction}
+use Rattle.logic.specs.Formula.{junction}
 use Rattle.formula.specs.memory.Stored.{sideOf, afterFirst}
 use Rattle.formula.specs.memory.Words.{connectiveTag}
 

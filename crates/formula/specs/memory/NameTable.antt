@@ -9,7 +9,7 @@ use Rattle.text.specs.Sizes.{variableCount}
 use Rattle.text.specs.Bytes.{Bytes, member}
 use Rattle.text.specs.Problem.{Name}
 use Rattle.text.specs.memory.Table.{position, indexed}
-use Rattle.formula.specs.Limits.{namesShort}
+use Rattle.logic.specs.Limits.{namesShort}
 
 -- a name that is in the table, or finds it full: its index does not change any more
 abbrev pub settled : List Name → Name → Bool

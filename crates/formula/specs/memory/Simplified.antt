@@ -5,7 +5,7 @@ use mathlib.Core.Bool.{Bool, true, false, cond, not}
 use lib.Dec.{eqb}
 use lib.ListN.{getD, take}
 use Rattle.formula.specs.memory.Kinds.{skip}
-use Rattle.formula.specs.Formula.{junction}
+use Rattle.logic.specs.Formula.{junction}
 use Rattle.formula.specs.memory.Words.{truthWord, connectiveTag}
 use Rattle.formula.specs.memory.Stored.{sideOf, afterFirst}
 use Rattle.formula.specs.declared.simplify.Simplified.{Simplified}

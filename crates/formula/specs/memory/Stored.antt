@@ -5,8 +5,8 @@ use mathlib.Core.Bool.{Bool, true, false}
 use lib.Dec.{eqb}
 use lib.ListN.{getD, drop}
 use Rattle.text.specs.Problem.{Name}
-use Rattle.formula.specs.Formula.{Term, element, variable, Terms, noTerms, term, Side, all, any, Connective, negation, implies, impliedBy, equivalent, junction}
-use Rattle.formula.specs.Formula.{Formula, truth, atom, equal, connective, quantifier, Formulas, noParts, part}
+use Rattle.logic.specs.Formula.{Term, element, variable, Terms, noTerms, term, Side, all, any, Connective, negation, implies, impliedBy, equivalent, junction}
+use Rattle.logic.specs.Formula.{Formula, truth, atom, equal, connective, quantifier, Formulas, noParts, part}
 use Rattle.formula.specs.memory.Kinds.{kindOf, skip}
 use Rattle.formula.specs.declared.word.Sign.{Sign}
 use Rattle.formula.specs.declared.word.Sign.the-variants.{Negation, Implies, ImpliedBy, Equivalent, Junction}

@@ -5,7 +5,7 @@ use mathlib.Core.Bool.{Bool, true, false, not}
 use lib.ListN.{getD, set}
 use Rattle.text.specs.memory.Table.{packed, among, tableNumbers}
 use Rattle.text.specs.declared.table.Table.{Table}
-use Rattle.formula.specs.Meaning.{Structure, Environment, valuesOf, joinAll, guarded, countFrom, holds, truths}
+use Rattle.logic.specs.Meaning.{Structure, Environment, valuesOf, joinAll, guarded, countFrom, holds, truths}
 use Rattle.formula.specs.memory.Stored.{indexName, stored, afterFirst, sideOf, termsAt, partsBy}
 use Rattle.formula.specs.declared.word.Sign.{Sign}
 use Rattle.formula.specs.declared.word.Sign.the-variants.{Negation, Implies, ImpliedBy, Equivalent, Junction}

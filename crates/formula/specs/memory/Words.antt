@@ -3,8 +3,8 @@ use Prim.Native.Nat.{ℕ, suc, _+_, _*_}
 use mathlib.Core.List.{List, [], _∷_, _++_}
 use mathlib.Core.Bool.{Bool, true, false}
 use Rattle.text.specs.Problem.{Name}
-use Rattle.formula.specs.Formula.{Term, element, variable, Terms, noTerms, term, termCount, Side, all, any, Connective, negation, implies, impliedBy, equivalent, junction}
-use Rattle.formula.specs.Formula.{Formula, truth, atom, equal, connective, quantifier, Formulas, noParts, part}
+use Rattle.logic.specs.Formula.{Term, element, variable, Terms, noTerms, term, termCount, Side, all, any, Connective, negation, implies, impliedBy, equivalent, junction}
+use Rattle.logic.specs.Formula.{Formula, truth, atom, equal, connective, quantifier, Formulas, noParts, part}
 
 abbrev pub truthWord : Bool → ℕ
 truthWord false = 0

@@ -9,7 +9,7 @@ use mathlib.Core.List.{List, [], _∷_}
 use mathlib.Core.Bool.{Bool, false}
 use lib.ListN.{length, drop, getD}
 use borrow.Author.Tests.{not-true, not-false}
-use Rattle.formula.specs.Meaning.{connect}
+use Rattle.logic.specs.Meaning.{connect}
 use Rattle.formula.specs.memory.Stored.{connectiveOf}
 use Rattle.formula.specs.memory.Values.{truthsAt, elementAt, eachAt}
 use Rattle.formula.specs.declared.word.Sign.{Sign}

@@ -4,7 +4,7 @@ use borrow.Author.Needs.{needs}
 use Prim.Native.Nat.{ℕ}
 use lib.Dec.{eqb}
 use mathlib.Core.Path.{ap, ap₂, _∙_}
-use Rattle.formula.specs.Meaning.{valueOf}
+use Rattle.logic.specs.Meaning.{valueOf}
 use Rattle.formula.specs.memory.Stored.{termOf, indexName}
 use Rattle.formula.specs.memory.Values.{valued}
 use Rattle.formula.proofs.guard.equal_holds.Statement.{statement}

@@ -4,7 +4,7 @@ use borrow.Author.Needs.{needs}
 use native.Mathlib.Omega.{arith}
 use Prim.Native.Nat.{ℕ, _%_}
 use mathlib.Core.Path.{_≡_, sym, ap, _∙_}
-use Rattle.formula.specs.Meaning.{valueOf}
+use Rattle.logic.specs.Meaning.{valueOf}
 use Rattle.formula.specs.memory.Stored.{termOf, indexName}
 use Rattle.formula.specs.memory.Values.{valued}
 use Rattle.formula.proofs.memory.Values.{rowNumber, row-none, row-one, row-two, row-three}

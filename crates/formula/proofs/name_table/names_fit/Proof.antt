@@ -6,7 +6,7 @@ use Prim.Native.Nat.{ℕ, _+_, _-_, _≤_}
 use mathlib.Core.Path.{_≡_, refl, sym, ap, _∙_}
 use borrow.Author.Tests.{not-true, not-false}
 use Rattle.text.specs.memory.Table.{indexed}
-use Rattle.formula.specs.Limits.{namesShort}
+use Rattle.logic.specs.Limits.{namesShort}
 use Rattle.formula.specs.memory.NameTable.{nameIn, namesIn, listFits}
 use Rattle.formula.proofs.memory.NameTable.{short-none, short-stop, short-next, fits-few, fits-short}
 use Rattle.formula.proofs.name_table.names_fit.Statement.{statement}

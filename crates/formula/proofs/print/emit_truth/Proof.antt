@@ -2,7 +2,7 @@
 -- Assumes nothing.
 use borrow.Author.Needs.{needs}
 use mathlib.Core.Path.{ap}
-use Rattle.formula.specs.Text.{truthText}
+use Rattle.logic.specs.Text.{truthText}
 use Rattle.formula.proofs.memory.Cursor.{print-as}
 use Rattle.formula.proofs.print.emit_truth.Statement.{statement}
 use Rattle.formula.proofs.print.emit_truth.Tie as tie

@@ -6,7 +6,7 @@ use Prim.Native.Nat.{ℕ, _+_, _≤_}
 use mathlib.Core.Path.{_≡_, refl, sym, ap, _∙_}
 use lib.ListN.{drop}
 use borrow.Author.Tests.{not-true, not-false}
-use Rattle.formula.specs.Names.{termClosed}
+use Rattle.logic.specs.Names.{termClosed}
 use Rattle.formula.specs.memory.Stored.{indexName, termOf}
 use Rattle.formula.specs.memory.Flags.{flagged, termsClosedAt}
 use Rattle.formula.proofs.memory.Flags.{termsClosed-none, termsClosed-more, termsClosed-stop}

@@ -3,7 +3,7 @@ use Prim.Native.Nat.{ℕ}
 use mathlib.Core.Bool.{Bool, true, false, _&&_, _||_}
 use Rattle.text.specs.Bytes.{same}
 use Rattle.text.specs.Problem.{Name, Problem, predicates, declared, isElement}
-use Rattle.formula.specs.Formula.{Term, element, variable, Terms, noTerms, term, termCount, Formula, truth, atom, equal, connective, quantifier, Formulas, noParts, part}
+use Rattle.logic.specs.Formula.{Term, element, variable, Terms, noTerms, term, termCount, Formula, truth, atom, equal, connective, quantifier, Formulas, noParts, part}
 
 abbrev pub termKnown : ℕ → Term → Bool
 termKnown n (element v) = isElement n v

@@ -6,9 +6,9 @@ use lib.Dec.{eqb}
 use Rattle.text.specs.Bytes.{Bytes, bytes, next, isDigit, isSmallOrDigit}
 use Rattle.text.specs.Problem.{Name, readName}
 use Rattle.text.specs.Reading.{Reader, give, refuse, _>>=_, _>>_, word, token, readNumber, _⇒_, oneOf, separated}
-use Rattle.formula.specs.Formula.{Term, element, variable, Terms, noTerms, termsOf, Side, all, any, Connective, negation, implies, impliedBy, equivalent, junction}
-use Rattle.formula.specs.Formula.{Formula, truth, atom, equal, connective, quantifier, Formulas, noParts, part, partsOf}
-use Rattle.formula.specs.Text.{truthText, connectiveSign, quantifierSign, isVariable}
+use Rattle.logic.specs.Formula.{Term, element, variable, Terms, noTerms, termsOf, Side, all, any, Connective, negation, implies, impliedBy, equivalent, junction}
+use Rattle.logic.specs.Formula.{Formula, truth, atom, equal, connective, quantifier, Formulas, noParts, part, partsOf}
+use Rattle.logic.specs.Text.{truthText, connectiveSign, quantifierSign, isVariable}
 
 unfoldable pub readVariable : Reader Name
 readVariable = token 5 isSmallOrDigit isVariable

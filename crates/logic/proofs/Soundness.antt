@@ -10,21 +10,21 @@ use Rattle.text.specs.Problem.{Name, Problem, given}
 use Rattle.text.specs.Derivation.{Rule}
 use Rattle.text.proofs.Laws.{and-left, and-right}
 use Rattle.text.proofs.Outcome.{Allowed, allowed-weaken}
-use Rattle.formula.specs.Formula.{Term, element, variable, Terms, noTerms, term, Side, all, any, junction, replace}
-use Rattle.formula.specs.Formula.{Formula, connective, Formulas, noParts, part}
-use Rattle.formula.specs.Names.{none, besides, closedBut}
-use Rattle.formula.specs.Normal.{inputsOnly, isElementTerm, elementsOnly}
-use Rattle.formula.specs.Meaning.{Structure, inputStructure, Extends, Environment, nowhere, bind, valueOf, valuesOf}
-use Rattle.formula.specs.Meaning.{unit, join, joinAll, connect, elementsTo, guarded, holds, truths}
-use Rattle.formula.specs.Rules.{isTruth, hasTruth, without, unlessNone, admits, instances, apply, at}
-use Rattle.formula.specs.Tables.{Makes, absorbing, dropping, negating, predicate, equality, proposition, instantiating}
-use Rattle.formula.specs.Tables.{Exchanged, first, later, MakesAt, here, inPart, inGuard, inBody}
-use Rattle.formula.proofs.Meaning.{holds-quantifier}
-use Rattle.formula.proofs.Substitution.{holds-replace}
-use Rattle.formula.proofs.Agreement.{alike-bind, holds-agree}
-use Rattle.formula.proofs.Rules.{isTruth-true}
-use Rattle.formula.proofs.Tables.{at-makes}
-use Rattle.formula.proofs.WellFormed.{WellFormed, ofConnective, ofQuantifier, AllWellFormed, ofPart, wellFormed-tested}
+use Rattle.logic.specs.Formula.{Term, element, variable, Terms, noTerms, term, Side, all, any, junction, replace}
+use Rattle.logic.specs.Formula.{Formula, connective, Formulas, noParts, part}
+use Rattle.logic.specs.Names.{none, besides, closedBut}
+use Rattle.logic.specs.Normal.{inputsOnly, isElementTerm, elementsOnly}
+use Rattle.logic.specs.Meaning.{Structure, inputStructure, Extends, Environment, nowhere, bind, valueOf, valuesOf}
+use Rattle.logic.specs.Meaning.{unit, join, joinAll, connect, elementsTo, guarded, holds, truths}
+use Rattle.logic.specs.Rules.{isTruth, hasTruth, without, unlessNone, admits, instances, apply, at}
+use Rattle.logic.specs.Tables.{Makes, absorbing, dropping, negating, predicate, equality, proposition, instantiating}
+use Rattle.logic.specs.Tables.{Exchanged, first, later, MakesAt, here, inPart, inGuard, inBody}
+use Rattle.logic.proofs.Meaning.{holds-quantifier}
+use Rattle.logic.proofs.Substitution.{holds-replace}
+use Rattle.logic.proofs.Agreement.{alike-bind, holds-agree}
+use Rattle.logic.proofs.Rules.{isTruth-true}
+use Rattle.logic.proofs.Tables.{at-makes}
+use Rattle.logic.proofs.WellFormed.{WellFormed, ofConnective, ofQuantifier, AllWellFormed, ofPart, wellFormed-tested}
 
 -- The two sides: what changes nothing, and what settles all.
 

@@ -7,11 +7,11 @@ use mathlib.Core.List.{List, [], _++_}
 use mathlib.Core.Bool.{Bool, true, false, _&&_, false≢true}
 use Rattle.text.specs.Problem.{Name, Problem, isOutput, isName}
 use Rattle.text.proofs.Laws.{and-left, and-right}
-use Rattle.formula.specs.Formula.{element, variable, Terms, noTerms, term, Side, all, any, Formula, Formulas}
-use Rattle.formula.specs.Text.{termsSpelled, spelled, allSpelled}
-use Rattle.formula.specs.Normal.{permits, elementsOnly, hasForm, allHaveForm}
-use Rattle.formula.specs.Limits.{guardQuantifiers, mostGuardQuantifiers, termsVariables, variables, allVariables}
-use Rattle.formula.proofs.Normal.{Clause, positive, negative, disjunction, Clauses, noClauses, clause}
+use Rattle.logic.specs.Formula.{element, variable, Terms, noTerms, term, Side, all, any, Formula, Formulas}
+use Rattle.logic.specs.Text.{termsSpelled, spelled, allSpelled}
+use Rattle.logic.specs.Normal.{permits, elementsOnly, hasForm, allHaveForm}
+use Rattle.logic.specs.Limits.{guardQuantifiers, mostGuardQuantifiers, termsVariables, variables, allVariables}
+use Rattle.logic.proofs.Normal.{Clause, positive, negative, disjunction, Clauses, noClauses, clause}
 
 elements-spelled : (ts : Terms) → elementsOnly ts ≡ true → termsSpelled ts ≡ true
 elements-spelled noTerms e = refl

@@ -7,11 +7,11 @@ use Rattle.text.specs.Reading.{Reader}
 use Rattle.text.specs.Problem.{Problem, readName}
 use Rattle.text.specs.Derivation.{Rule, SNAND, SNOR, STN, EPRED, EPROP, IQ}
 use Rattle.text.proofs.Refusals.{Refuses, never, only, refuses-mapped, outcomes, OnlyRefuses, EachRefuses, only-refuse, only-oneOf, readers}
-use Rattle.formula.specs.Formula.{noTerms, term, Side, all, any, Connective, Formula, truth, atom, equal, connective, quantifier, Formulas, noParts, part}
-use Rattle.formula.specs.Reading.{readVariable, readTerm, readEquality, readArguments, readAtom, readNegation, readTwo, readParts, readJunction, readQuantifier}
-use Rattle.formula.specs.Reading.{formulaKinds, readFormula}
-use Rattle.formula.specs.Rules.{Rewriting, simplify, evaluatePredicate, evaluateProposition, apply, intoParts, into, at}
-use Rattle.formula.proofs.Rules.{onTruth-cases, onNegation-cases, onJunction-cases, onQuantifier-cases}
+use Rattle.logic.specs.Formula.{noTerms, term, Side, all, any, Connective, Formula, truth, atom, equal, connective, quantifier, Formulas, noParts, part}
+use Rattle.logic.specs.Reading.{readVariable, readTerm, readEquality, readArguments, readAtom, readNegation, readTwo, readParts, readJunction, readQuantifier}
+use Rattle.logic.specs.Reading.{formulaKinds, readFormula}
+use Rattle.logic.specs.Rules.{Rewriting, simplify, evaluatePredicate, evaluateProposition, apply, intoParts, into, at}
+use Rattle.logic.proofs.Rules.{onTruth-cases, onNegation-cases, onJunction-cases, onQuantifier-cases}
 
 -- A formula's text: 5, and 6 where no level is left.
 

@@ -11,15 +11,15 @@ use Rattle.text.specs.Problem.{Name, Problem, isElement, predicates, declared}
 use Rattle.text.specs.Derivation.{Rule}
 use Rattle.text.proofs.Laws.{and-left, and-right, same-true}
 use Rattle.text.proofs.Outcome.{Allowed, allowed-weaken}
-use Rattle.formula.specs.Formula.{Term, element, variable, Terms, noTerms, term, termCount, Side, replaceTerm, replaceTerms, replace, replaces}
-use Rattle.formula.specs.Formula.{Formula, truth, atom, equal, connective, quantifier, Formulas, noParts, part}
-use Rattle.formula.specs.Names.{termKnown, termsKnown, known, besides, termClosed, termsClosed, closed}
-use Rattle.formula.specs.Meaning.{countFrom, elementsTo}
-use Rattle.formula.specs.Rules.{isTruth, without, unlessNone, admits, instances, apply, at}
-use Rattle.formula.specs.Tables.{Makes, absorbing, dropping, negating, predicate, equality, proposition, instantiating}
-use Rattle.formula.specs.Tables.{Exchanged, first, later, MakesAt, here, inPart, inGuard, inBody}
-use Rattle.formula.proofs.Tables.{at-makes}
-use Rattle.formula.proofs.WellFormed.{WellFormed, ofTruth, ofAtom, ofEqual, ofConnective, ofQuantifier, AllWellFormed, ofNone, ofPart}
+use Rattle.logic.specs.Formula.{Term, element, variable, Terms, noTerms, term, termCount, Side, replaceTerm, replaceTerms, replace, replaces}
+use Rattle.logic.specs.Formula.{Formula, truth, atom, equal, connective, quantifier, Formulas, noParts, part}
+use Rattle.logic.specs.Names.{termKnown, termsKnown, known, besides, termClosed, termsClosed, closed}
+use Rattle.logic.specs.Meaning.{countFrom, elementsTo}
+use Rattle.logic.specs.Rules.{isTruth, without, unlessNone, admits, instances, apply, at}
+use Rattle.logic.specs.Tables.{Makes, absorbing, dropping, negating, predicate, equality, proposition, instantiating}
+use Rattle.logic.specs.Tables.{Exchanged, first, later, MakesAt, here, inPart, inGuard, inBody}
+use Rattle.logic.proofs.Tables.{at-makes}
+use Rattle.logic.proofs.WellFormed.{WellFormed, ofTruth, ofAtom, ofEqual, ofConnective, ofQuantifier, AllWellFormed, ofNone, ofPart}
 
 -- An element put for a variable.
 

@@ -6,11 +6,11 @@ use lib.Dec.{eqb}
 use Rattle.text.specs.Outcome.{Outcome, done, refused, mapped}
 use Rattle.text.specs.Problem.{Name, Problem, isInput, given}
 use Rattle.text.specs.Derivation.{Rule, SNAND, SNOR, STN, EPRED, EPROP, IQ}
-use Rattle.formula.specs.Formula.{Term, Terms, noTerms, term, Side, all, any, Connective, negation, implies, impliedBy, equivalent, junction}
-use Rattle.formula.specs.Formula.{Formula, truth, atom, equal, connective, quantifier, Formulas, noParts, part, replace}
-use Rattle.formula.specs.Names.{closedBut}
-use Rattle.formula.specs.Normal.{isElementTerm, elementsOnly}
-use Rattle.formula.specs.Meaning.{inputStructure, nowhere, bind, valueOf, valuesOf, unit, elementsTo, holds}
+use Rattle.logic.specs.Formula.{Term, Terms, noTerms, term, Side, all, any, Connective, negation, implies, impliedBy, equivalent, junction}
+use Rattle.logic.specs.Formula.{Formula, truth, atom, equal, connective, quantifier, Formulas, noParts, part, replace}
+use Rattle.logic.specs.Names.{closedBut}
+use Rattle.logic.specs.Normal.{isElementTerm, elementsOnly}
+use Rattle.logic.specs.Meaning.{inputStructure, nowhere, bind, valueOf, valuesOf, unit, elementsTo, holds}
 
 -- what is made of a formula, or the number of the refusal
 abbrev pub Rewriting : Type 0

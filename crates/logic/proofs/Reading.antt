@@ -17,13 +17,13 @@ use Rattle.text.proofs.Numbers.{decimal-first}
 use Rattle.text.proofs.Reading.{OneOrMore, each-some, Reads, reads-refuse, reads-give, reads-then, reads-weaken, reads-cond}
 use Rattle.text.proofs.Reading.{reads-word, reads-token, reads-number, reads-oneOf, reads-separated}
 use Rattle.text.proofs.Reading.{ReadsBack, read-token, read-number, read-separated, oneOf-word, oneOf-last, next-append}
-use Rattle.formula.specs.Formula.{Term, element, variable, Terms, noTerms, term, termsOf}
-use Rattle.formula.specs.Formula.{Side, all, any, Connective, negation, implies, impliedBy, equivalent, junction}
-use Rattle.formula.specs.Formula.{Formula, truth, atom, equal, connective, quantifier, Formulas, noParts, part, partsOf, depth, depths}
-use Rattle.formula.specs.Text.{connectiveSign, quantifierSign, termText, termTexts, bracketed, argumentsText, connectiveText, textOf, textsOf}
-use Rattle.formula.specs.Text.{isVariable, termSpelled, termsSpelled, isOne, isTwo, takes, spelled, allSpelled}
-use Rattle.formula.specs.Reading.{readVariable, readTerm, readEquality, readArguments, readAtom}
-use Rattle.formula.specs.Reading.{readNegation, readTwo, readParts, readJunction, readQuantifier, formulaKinds, readFormula}
+use Rattle.logic.specs.Formula.{Term, element, variable, Terms, noTerms, term, termsOf}
+use Rattle.logic.specs.Formula.{Side, all, any, Connective, negation, implies, impliedBy, equivalent, junction}
+use Rattle.logic.specs.Formula.{Formula, truth, atom, equal, connective, quantifier, Formulas, noParts, part, partsOf, depth, depths}
+use Rattle.logic.specs.Text.{connectiveSign, quantifierSign, termText, termTexts, bracketed, argumentsText, connectiveText, textOf, textsOf}
+use Rattle.logic.specs.Text.{isVariable, termSpelled, termsSpelled, isOne, isTwo, takes, spelled, allSpelled}
+use Rattle.logic.specs.Reading.{readVariable, readTerm, readEquality, readArguments, readAtom}
+use Rattle.logic.specs.Reading.{readNegation, readTwo, readParts, readJunction, readQuantifier, formulaKinds, readFormula}
 
 -- What is read is well spelled, within the levels, and has that text.
 

@@ -5,8 +5,8 @@ use mathlib.Core.Bool.{Bool, true, false, not, _&&_}
 use Rattle.text.specs.Bytes.{Bytes, bytes, next, same, every, isSmall, isSmallOrDigit, joined}
 use Rattle.text.specs.Numbers.{decimal}
 use Rattle.text.specs.Problem.{Name, isName}
-use Rattle.formula.specs.Formula.{Term, element, variable, Terms, noTerms, term, Side, all, any, Connective, negation, implies, impliedBy, equivalent, junction}
-use Rattle.formula.specs.Formula.{Formula, truth, atom, equal, connective, quantifier, Formulas, noParts, part}
+use Rattle.logic.specs.Formula.{Term, element, variable, Terms, noTerms, term, Side, all, any, Connective, negation, implies, impliedBy, equivalent, junction}
+use Rattle.logic.specs.Formula.{Formula, truth, atom, equal, connective, quantifier, Formulas, noParts, part}
 
 abbrev pub truthText : Bool → Bytes
 truthText true = bytes "true"

@@ -8,10 +8,10 @@ use mathlib.Core.Path.{_≡_, refl, ap₂}
 use mathlib.Core.Bool.{Bool, true, false, _&&_, false≢true}
 use Rattle.text.specs.Problem.{Name, Problem, isInput}
 use Rattle.text.proofs.Laws.{and-left, and-right}
-use Rattle.formula.specs.Formula.{Term, Terms, Side, all, Connective, negation, implies, impliedBy, equivalent, junction}
-use Rattle.formula.specs.Formula.{Formula, truth, atom, equal, connective, quantifier, Formulas, noParts, part, depth, depths}
-use Rattle.formula.specs.Names.{known, allKnown, none, besides, closed, allClosed, namesFit}
-use Rattle.formula.specs.Normal.{mentionsOnly, allMentionOnly, inputsOnly, isSimple, permits, connectiveForm, hasForm, allHaveForm, isGNF}
+use Rattle.logic.specs.Formula.{Term, Terms, Side, all, Connective, negation, implies, impliedBy, equivalent, junction}
+use Rattle.logic.specs.Formula.{Formula, truth, atom, equal, connective, quantifier, Formulas, noParts, part, depth, depths}
+use Rattle.logic.specs.Names.{known, allKnown, none, besides, closed, allClosed, namesFit}
+use Rattle.logic.specs.Normal.{mentionsOnly, allMentionOnly, inputsOnly, isSimple, permits, connectiveForm, hasForm, allHaveForm, isGNF}
 
 -- `inside` a guard or not, with the variables `bound` around, and so many levels left
 mutual

@@ -13,11 +13,11 @@ use Rattle.text.specs.Bytes.{followed}
 use Rattle.text.specs.Numbers.{digits, decimal}
 use Rattle.text.specs.Problem.{Name, Problem, isOutput, predicates, declared}
 use Rattle.text.proofs.Laws.{and-left, and-right}
-use Rattle.formula.specs.Formula.{Term, element, variable, Terms, noTerms, term, termCount, Formula, Formulas, atom, size, sizes}
-use Rattle.formula.specs.Text.{termText, termTexts, textOf, textsOf}
-use Rattle.formula.specs.Names.{termKnown, termsKnown, known, allKnown}
-use Rattle.formula.specs.Normal.{isElementTerm, elementsOnly, isClause}
-use Rattle.formula.proofs.Normal.{Clause, positive, negative, disjunction, Clauses, noClauses, clause, isClause-clause}
+use Rattle.logic.specs.Formula.{Term, element, variable, Terms, noTerms, term, termCount, Formula, Formulas, atom, size, sizes}
+use Rattle.logic.specs.Text.{termText, termTexts, textOf, textsOf}
+use Rattle.logic.specs.Names.{termKnown, termsKnown, known, allKnown}
+use Rattle.logic.specs.Normal.{isElementTerm, elementsOnly, isClause}
+use Rattle.logic.proofs.Normal.{Clause, positive, negative, disjunction, Clauses, noClauses, clause, isClause-clause}
 
 -- a number below a power of ten has no more digits than the power says
 length-digits : (most k n : ℕ) → n < 10 ^ suc k → length (digits most n) ≤ suc k

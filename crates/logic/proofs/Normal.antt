@@ -4,9 +4,9 @@ use mathlib.Core.Path.{_≡_, refl, ap₂}
 use mathlib.Core.Bool.{Bool, true, false, not, _&&_, false≢true}
 use Rattle.text.specs.Problem.{Name, Problem, isInput, isOutput}
 use Rattle.text.proofs.Laws.{and-left, and-right}
-use Rattle.formula.specs.Formula.{Terms, all, any, Connective, negation, implies, impliedBy, equivalent, junction}
-use Rattle.formula.specs.Formula.{Formula, truth, atom, equal, connective, quantifier, Formulas, noParts, part}
-use Rattle.formula.specs.Normal.{mentionsOnly, allMentionOnly, elementsOnly, connectiveClause, isClause, allClauses}
+use Rattle.logic.specs.Formula.{Terms, all, any, Connective, negation, implies, impliedBy, equivalent, junction}
+use Rattle.logic.specs.Formula.{Formula, truth, atom, equal, connective, quantifier, Formulas, noParts, part}
+use Rattle.logic.specs.Normal.{mentionsOnly, allMentionOnly, elementsOnly, connectiveClause, isClause, allClauses}
 
 -- an atom of an output predicate with elements only, one such negated, or `|` of one or more clauses
 mutual

@@ -7,7 +7,7 @@ use lib.ListN.{length}
 use Rattle.text.specs.Sizes.{nameSize, variableCount, guardQuantifierCount, formulaCount, theorySize}
 use Rattle.text.specs.Bytes.{member, every}
 use Rattle.text.specs.Problem.{Name}
-use Rattle.formula.specs.Formula.{Term, element, variable, Terms, noTerms, term, Formula, truth, atom, equal, connective, quantifier, Formulas, noParts, part, size}
+use Rattle.logic.specs.Formula.{Term, element, variable, Terms, noTerms, term, Formula, truth, atom, equal, connective, quantifier, Formulas, noParts, part, size}
 
 -- the most quantifiers on a path, through guards and bodies alike
 unfoldable mutual

@@ -10,16 +10,16 @@ use Rattle.text.specs.Problem.{Problem, isInput}
 use Rattle.text.specs.Derivation.{Rule, SNAND, SNOR, STN, EPRED, EPROP, IQ}
 use Rattle.text.proofs.Laws.{and-left, and-right}
 use Rattle.text.proofs.Outcome.{Allowed, allowed-mapped, allowed-weaken, allowed-cond}
-use Rattle.formula.specs.Formula.{noTerms, term, Side, all, any, negation, junction}
-use Rattle.formula.specs.Formula.{Formula, truth, atom, equal, connective, quantifier, Formulas, noParts, part}
-use Rattle.formula.specs.Names.{closedBut}
-use Rattle.formula.specs.Normal.{isElementTerm, elementsOnly}
-use Rattle.formula.specs.Meaning.{unit}
-use Rattle.formula.specs.Rules.{Rewriting, hasTruth, without, unlessNone, simplified, isSide, simplify, evaluatePredicate, evaluateProposition}
-use Rattle.formula.specs.Rules.{apply, intoParts, into, at}
-use Rattle.formula.specs.Tables.{simplification, Makes, absorbing, dropping, negating, predicate, equality, proposition, instantiating}
-use Rattle.formula.specs.Tables.{Exchanged, first, later, AtPath, MakesAt, here, inPart, inGuard, inBody}
-use Rattle.formula.proofs.Rules.{onTruth-cases, onNegation-cases, onJunction-cases, onQuantifier-cases}
+use Rattle.logic.specs.Formula.{noTerms, term, Side, all, any, negation, junction}
+use Rattle.logic.specs.Formula.{Formula, truth, atom, equal, connective, quantifier, Formulas, noParts, part}
+use Rattle.logic.specs.Names.{closedBut}
+use Rattle.logic.specs.Normal.{isElementTerm, elementsOnly}
+use Rattle.logic.specs.Meaning.{unit}
+use Rattle.logic.specs.Rules.{Rewriting, hasTruth, without, unlessNone, simplified, isSide, simplify, evaluatePredicate, evaluateProposition}
+use Rattle.logic.specs.Rules.{apply, intoParts, into, at}
+use Rattle.logic.specs.Tables.{simplification, Makes, absorbing, dropping, negating, predicate, equality, proposition, instantiating}
+use Rattle.logic.specs.Tables.{Exchanged, first, later, AtPath, MakesAt, here, inPart, inGuard, inBody}
+use Rattle.logic.proofs.Rules.{onTruth-cases, onNegation-cases, onJunction-cases, onQuantifier-cases}
 
 module _ (P : Problem) where
   -- what the rule r may make of a formula; a refusal is free

@@ -9,11 +9,11 @@ use lib.Dec.{eqb}
 use Rattle.text.specs.Bytes.{same}
 use Rattle.text.specs.Problem.{Name, Problem}
 use Rattle.text.proofs.Laws.{same-true}
-use Rattle.formula.specs.Formula.{Term, element, variable, Terms, noTerms, term, Side, replaceTerm, replaceTerms, replace, replaces}
-use Rattle.formula.specs.Formula.{Formula, truth, atom, equal, connective, quantifier, Formulas, noParts, part}
-use Rattle.formula.specs.Meaning.{Structure, inputStructure, Environment, nowhere, bind, valueOf, valuesOf, connect, holds, truths}
-use Rattle.formula.specs.Rules.{admits}
-use Rattle.formula.proofs.Meaning.{holds-quantifier}
+use Rattle.logic.specs.Formula.{Term, element, variable, Terms, noTerms, term, Side, replaceTerm, replaceTerms, replace, replaces}
+use Rattle.logic.specs.Formula.{Formula, truth, atom, equal, connective, quantifier, Formulas, noParts, part}
+use Rattle.logic.specs.Meaning.{Structure, inputStructure, Environment, nowhere, bind, valueOf, valuesOf, connect, holds, truths}
+use Rattle.logic.specs.Rules.{admits}
+use Rattle.logic.proofs.Meaning.{holds-quantifier}
 
 -- a variable bound twice has the inner value
 bind-again : (ρ : Environment) (x y : Name) (v w : ℕ) → same y x ≡ true → bind (bind ρ x v) y w ≡ bind ρ y w

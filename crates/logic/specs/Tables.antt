@@ -6,12 +6,12 @@ use mathlib.Core.Bool.{Bool, true, false, not, _&&_}
 use lib.Dec.{eqb}
 use Rattle.text.specs.Problem.{Name, Problem, isInput, given}
 use Rattle.text.specs.Derivation.{Rule, SNAND, SNOR, STN, EPRED, EPROP, IQ}
-use Rattle.formula.specs.Formula.{Term, Terms, noTerms, term, Side, all, any, Connective, negation, junction}
-use Rattle.formula.specs.Formula.{Formula, truth, atom, equal, connective, quantifier, Formulas, noParts, part}
-use Rattle.formula.specs.Names.{closedBut}
-use Rattle.formula.specs.Normal.{isElementTerm, elementsOnly}
-use Rattle.formula.specs.Meaning.{nowhere, valueOf, valuesOf, unit}
-use Rattle.formula.specs.Rules.{hasTruth, without, unlessNone, instantiated}
+use Rattle.logic.specs.Formula.{Term, Terms, noTerms, term, Side, all, any, Connective, negation, junction}
+use Rattle.logic.specs.Formula.{Formula, truth, atom, equal, connective, quantifier, Formulas, noParts, part}
+use Rattle.logic.specs.Names.{closedBut}
+use Rattle.logic.specs.Normal.{isElementTerm, elementsOnly}
+use Rattle.logic.specs.Meaning.{nowhere, valueOf, valuesOf, unit}
+use Rattle.logic.specs.Rules.{hasTruth, without, unlessNone, instantiated}
 
 -- SNAND for `&`, SNOR for `|`
 abbrev pub simplification : Side → Rule

@@ -1,0 +1,13 @@
+pub mod Meaning
+pub mod Substitution
+pub mod Agreement
+pub mod Rules
+pub mod Tables
+pub mod WellFormed
+pub mod Kept
+pub mod Soundness
+pub mod Normal
+pub mod GroundSize
+pub mod Clauses
+pub mod Reading
+pub mod Refusals

@@ -1,0 +1,9 @@
+pub mod Formula
+pub mod Text
+pub mod Reading
+pub mod Names
+pub mod Normal
+pub mod Limits
+pub mod Meaning
+pub mod Rules
+pub mod Tables
