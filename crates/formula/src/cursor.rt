@@ -4,7 +4,7 @@ ghost use mathlib.Core.Path.{_≡_};
 ghost use mathlib.Core.List.{[], _∷_};
 ghost use mathlib.Core.Bool.{cond};
 ghost use lib.ListN.{set, drop};
-ghost use Rattle.formula.specs.memory.Cursor.{counted, firstIs, cursorAfter, Prints};
+ghost use Rattle.formula.specs.memory.Cursor.{counted, firstIs, cursorAfter, firstCursor, Prints};
 
 // Larger than every text: from here on bytes and lines are not counted.
 const COUNTLESS: usize = 1000000000;
@@ -14,6 +14,17 @@ pub struct Cursor {
     pub length: usize,
     pub same: bool,
     pub line: u32,
+}
+
+// Before the first byte.
+pub fn start() -> Cursor
+    ensures { λ r. ⌜ r ≡ firstCursor ⌝ }
+{
+    Cursor {
+        length: 0,
+        same: true,
+        line: 1,
+    }
 }
 
 fn more(n: usize) -> usize

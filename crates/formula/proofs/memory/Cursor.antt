@@ -4,14 +4,14 @@ use Prim.Native.Nat.{ℕ, suc, _+_, _≤_, _<_}
 use native.Mathlib.Nat.{zero-add}
 use native.Mathlib.Numerals.{add-one}
 use native.Mathlib.Omega.{arith}
-use mathlib.Core.Path.{_≡_, refl, sym, ap, ap₂, _∙_}
+use mathlib.Core.Path.{_≡_, refl, sym, ap, ap₂, subst, _∙_}
 use mathlib.Core.List.{List, [], _∷_, _++_}
 use mathlib.Core.Bool.{Bool, true, false, cond, _&&_}
 use borrow.Author.Tests.{eq-eqb, ne-eqb, eqb-true, eqb-false}
 use lib.Dec.{eqb}
 use lib.ListN.{length, getD, drop, set, drop-of-length-le}
 use lib.Seq.{sets, drop-cons, drop-drop}
-use Rattle.text.specs.Bytes.{Bytes, same, followed, joined}
+use Rattle.text.specs.Bytes.{Bytes, same, followed}
 use Rattle.text.specs.Lines.{isLF}
 use Rattle.formula.specs.declared.cursor.Cursor.{Cursor}
 use Rattle.formula.specs.memory.Cursor.{countless, counted, firstIs, agreesAfter, lineAfter, cursorAfter, firstCursor, Print, emitted, printed, Prints}
@@ -96,18 +96,14 @@ module _ {claim : Bytes} {store : Bool} {p q : Print} {whole rest : Bytes} (so :
   remains-then {r} {s} {t} e f =
       record { is = so .is ∙ ap (printed claim store q) e ∙ printed-append claim store q s t ∙ ap (λ (x : Print). printed claim store x t) (sym (f .is)) }
 
--- Texts with commas between them: the first, one more, and no more.
-module _ {claim : Bytes} {store : Bool} {p q : Print} where
-  pub remains-first : {w : Bytes} {ws vs : List Bytes} → vs ≡ w ∷ ws → Prints claim store p w q → Remains claim store p (joined 44 vs) q (followed 44 ws)
-  remains-first e f = remains-then remains-all (ap (joined 44) e) f
+-- Texts with commas between them: one more, and no more.
+module _ {claim : Bytes} {store : Bool} {p q : Print} {whole : Bytes} {vs : List Bytes} (so : Remains claim store p whole q (followed 44 vs)) where
+  pub remains-next : {o r : Print} {w : Bytes} {ws : List Bytes} → vs ≡ w ∷ ws → Prints claim store q (44 ∷ []) o → Prints claim store o w r
+      → Remains claim store p whole r (followed 44 ws)
+  remains-next e f g = remains-then so (ap (followed 44) e) (print-then f g)
 
-  module _ {whole : Bytes} {vs : List Bytes} (so : Remains claim store p whole q (followed 44 vs)) where
-    pub remains-next : {o r : Print} {w : Bytes} {ws : List Bytes} → vs ≡ w ∷ ws → Prints claim store q (44 ∷ []) o → Prints claim store o w r
-        → Remains claim store p whole r (followed 44 ws)
-    remains-next e f g = remains-then so (ap (followed 44) e) (print-then f g)
-
-    pub remains-last : vs ≡ [] → Prints claim store p whole q
-    remains-last e = remains-nothing so (ap (followed 44) e)
+  pub remains-last : vs ≡ [] → Prints claim store p whole q
+  remains-last e = remains-nothing so (ap (followed 44) e)
 
 -- Whole texts: what the cursor tells behind them, and what is stored.
 
@@ -115,7 +111,7 @@ fits-more : (n k : ℕ) → n + suc k ≤ countless → counted n ≡ suc n
 fits-more n k h = omega arith
 
 module _ (claim : Bytes) where
-  pub printed-length : (store : Bool) (p : Print) (w : Bytes) → p .0 .length + length w ≤ countless → printed claim store p w .0 .length ≡ p .0 .length + length w
+  printed-length : (store : Bool) (p : Print) (w : Bytes) → p .0 .length + length w ≤ countless → printed claim store p w .0 .length ≡ p .0 .length + length w
   unfolding printed emitted cursorAfter
   printed-length store p [] h = omega arith
   printed-length store p (b ∷ w) h =
@@ -123,17 +119,28 @@ module _ (claim : Bytes) where
       printed-length store (emitted claim store p b) w (omega arith) ∙ omega arith
 
   -- nothing is stored if not asked
-  pub printed-kept : (p : Print) (w : Bytes) → printed claim false p w .1 ≡ p .1
+  printed-kept : (p : Print) (w : Bytes) → printed claim false p w .1 ≡ p .1
   unfolding printed emitted
   printed-kept p [] = refl
   printed-kept p (b ∷ w) = printed-kept (emitted claim false p b) w
 
-  pub printed-stored : (p : Print) (w : Bytes) → p .0 .length + length w ≤ countless → printed claim true p w .1 ≡ sets (p .1) (p .0 .length) w
+  printed-stored : (p : Print) (w : Bytes) → p .0 .length + length w ≤ countless → printed claim true p w .1 ≡ sets (p .1) (p .0 .length) w
   unfolding printed emitted cursorAfter
   printed-stored p [] h = refl
   printed-stored p (b ∷ w) h =
       let e = fits-more (p .0 .length) (length w) h in
       printed-stored (emitted claim true p b) w (omega arith) ∙ rw e
+
+pub prints-length : {claim : Bytes} {store : Bool} {p q : Print} {w : Bytes} → Prints claim store p w q → p .0 .length + length w ≤ countless
+    → q .0 .length ≡ p .0 .length + length w
+prints-length {claim} {store} {p} {q} {w} so h = ap (λ (r : Print). r .0 .length) (so .is) ∙ printed-length claim store p w h
+
+pub prints-kept : {claim : Bytes} {p q : Print} {w : Bytes} → Prints claim false p w q → q .1 ≡ p .1
+prints-kept {claim} {p} {q} {w} so = ap (λ (r : Print). r .1) (so .is) ∙ printed-kept claim p w
+
+pub prints-stored : {claim : Bytes} {p q : Print} {w : Bytes} → Prints claim true p w q → p .0 .length + length w ≤ countless
+    → q .1 ≡ sets (p .1) (p .0 .length) w
+prints-stored {claim} {p} {q} {w} so h = ap (λ (r : Print). r .1) (so .is) ∙ printed-stored claim p w h
 
 feed-atmost : (b : Bool) → cond b 1 0 ≤ 1
 feed-atmost true = omega arith
@@ -222,12 +229,12 @@ module _
             record { alike = rw (last, t); line = rw (onward a s b w, t, end, line) }
 
     -- a whole text against the claim
-    module _ (out : List ℕ) (w : Bytes) (fits : length w < countless) where
-      whole : Compared claim w (firstCursor, out) (printed claim store (firstCursor, out) w)
-      whole = compared w claim (firstCursor, out) refl refl (omega arith) (omega arith)
+    module _ {out : List ℕ} {w : Bytes} {q : Print} (so : Prints claim store (firstCursor, out) w q) (fits : length w < countless) where
+      whole : Compared claim w (firstCursor, out) q
+      whole = subst (Compared claim w (firstCursor, out)) (sym (so .is)) (compared w claim (firstCursor, out) refl refl (omega arith) (omega arith))
 
-      pub printed-line : printed claim store (firstCursor, out) w .0 .line ≡ differenceLine claim w
-      printed-line = omega (arith, whole .line)
+      pub prints-line : q .0 .line ≡ differenceLine claim w
+      prints-line = omega (arith, whole .line)
 
-      pub printed-same : (printed claim store (firstCursor, out) w .0 .same && eqb (printed claim store (firstCursor, out) w .0 .length) (length claim)) ≡ same claim w
-      printed-same = rw (printed-length claim store (firstCursor, out) w (omega arith), zero-add) (whole .alike)
+      pub prints-same : (q .0 .same && eqb (q .0 .length) (length claim)) ≡ same claim w
+      prints-same = rw (prints-length so (omega arith), zero-add) (whole .alike)

@@ -21,13 +21,15 @@ abbrev pub firstIs : Bytes → ℕ → Bool
 firstIs [] b = false
 firstIs (a ∷ s) b = eqb a b
 
--- the cursor behind one byte more: an LF counts only where all was the same, itself too
-unfoldable pub lineAfter : Bool → ℕ → ℕ → ℕ
-lineAfter agrees b line = cond (agrees && isLF b) (counted line) line
-
+-- all is the same, with one byte more
 unfoldable pub agreesAfter : Bytes → Cursor → ℕ → Bool
 agreesAfter claim cursor b = cursor .same && firstIs (drop (cursor .length) claim) b
 
+-- an LF counts only if all is the same, itself too
+unfoldable pub lineAfter : Bool → ℕ → ℕ → ℕ
+lineAfter agrees b line = cond (agrees && isLF b) (counted line) line
+
+-- the cursor behind one byte more
 unfoldable pub cursorAfter : Bytes → Cursor → ℕ → Cursor
 cursorAfter claim cursor b =
     record {
