@@ -26,3 +26,7 @@ pub mod Bindings
 pub mod Signature
 pub mod Simplified
 pub mod Simplification
+pub mod Lists
+pub mod Entries
+pub mod TermReads
+pub mod Leaves

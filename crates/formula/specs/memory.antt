@@ -14,3 +14,7 @@ pub mod Facts
 pub mod Bindings
 pub mod Signature
 pub mod Simplified
+pub mod Lists
+pub mod Entries
+pub mod TermReads
+pub mod FormulaReads

@@ -125,7 +125,7 @@ extendedBy-settles (x ∷ xs) names =
 -- The table in memory.
 
 module _ {A : Type 0} (f : ℕ → A) where
-  length-indexed : (n i : ℕ) → length (indexed f i n) ≡ n
+  pub length-indexed : (n i : ℕ) → length (indexed f i n) ≡ n
   unfolding indexed
   length-indexed zero i = refl
   length-indexed (suc n) i = ap suc (length-indexed n (suc i))

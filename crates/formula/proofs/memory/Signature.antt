@@ -10,9 +10,10 @@ use mathlib.Core.Bool.{Bool, true, false, _&&_, _||_}
 use lib.Dec.{eqb}
 use Rattle.text.specs.Bytes.{Bytes, same}
 use Rattle.text.specs.Problem.{Name, Predicate, Problem, inputPredicates, predicates, named, declared, isInput}
-use Rattle.text.specs.memory.Table.{indexed, tablePredicate, tableInput, problemIn}
+use Rattle.text.specs.memory.Table.{position, indexed, tableName, tableNames, tablePredicate, tableInput, problemIn}
 use Rattle.text.specs.declared.table.Table.{Table}
 use Rattle.formula.specs.memory.Signature.{signatureOf}
+use Rattle.formula.proofs.memory.NameTable.{position-within, length-indexed}
 
 indexed-append : {A : Type 0} (f : ℕ → A) (n : ℕ) (i m : ℕ) → indexed f i (n + m) ≡ indexed f i n ++ indexed f (i + n) m
 unfolding indexed
@@ -40,6 +41,14 @@ module _ (problem : Bytes) (table : Table) (rows : List ℕ) where
       let z : 0 + table .inputs ≡ table .inputs = omega arith in
       ap (λ l. l ++ indexed f (table .inputs) (table .count - table .inputs)) inputs-table
       ∙ rw e (sym (indexed-append f (table .inputs) 0 (table .count - table .inputs) ∙ rw z))
+
+pub domain-table : (problem : Bytes) (table : Table) → signatureOf problem table .domain ≡ table .domain
+unfolding signatureOf problemIn
+domain-table problem table = refl
+
+pub position-table : (problem : Bytes) (table : Table) (p : Name) → position p (tableNames problem table) ≤ table .count
+position-table problem table p =
+    omega (arith, position-within p (tableNames problem table), length-indexed (tableName problem table) (table .count) 0)
 
 -- by the table's columns, all of them to begin with
 module _ (problem : Bytes) (table : Table) (p : Name) where

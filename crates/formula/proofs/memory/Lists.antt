@@ -1,0 +1,203 @@
+-- Items with commas between them, one after the other: what was read and what is read of the rest are what is read of the whole. And where there
+-- may be as many items as the text has bytes, they are those of `separated`.
+-- Assumes nothing.
+use Prim.Native.Nat.{ℕ, zero, suc, _+_, _-_, _≤_, _<_}
+use native.Mathlib.Numerals.{sub-one}
+use native.Mathlib.Omega.{arith}
+use mathlib.Core.Path.{_≡_, refl, sym, ap, _∙_}
+use mathlib.Core.List.{List, [], _∷_, _++_, append-nil, append-assoc}
+use mathlib.Core.Bool.{Bool, true, false, cond, false≢true}
+use lib.Dec.{eqb}
+use native.Mathlib.Decide.{decLt}
+use lib.ListN.{length, drop, length-drop}
+use lib.Seq.{drop-drop}
+use borrow.Author.Tests.{eq-eqb, ne-eqb, eqb-true, eqb-false}
+use Rattle.text.specs.Bytes.{Bytes, next, begins}
+use Rattle.text.specs.Outcome.{Outcome, done, refused, mapped}
+use Rattle.text.specs.Outcome as outcome
+use Rattle.text.specs.Reading.{Reader, give, word, further, separated}
+use Rattle.text.proofs.Laws.{and-right}
+use Rattle.text.proofs.Outcome.{Allowed}
+use Rattle.text.proofs.Places.{next-beyond}
+use Rattle.formula.specs.memory.Lists.{upTo}
+
+-- a byte that is not 0 stands before the end
+pub byte-within : (text : Bytes) (at b : ℕ) → next (drop at text) ≡ b → 0 < b → at + 1 ≤ length text
+byte-within text at b e h = pick (decLt at (length text))
+  where
+    pick : Dec (at < length text) → at + 1 ≤ length text
+    pick (yes k) = omega arith
+    pick (no k) = absurd (omega (arith, e, next-beyond text at (omega arith)))
+
+-- one byte
+module _ (b : ℕ) (nonzero : 0 < b) where
+  pub begins-first : (s : Bytes) → next s ≡ b → begins (b ∷ []) s ≡ true
+  begins-first [] e = absurd (omega arith)
+  begins-first (c ∷ s) e = rw (eq-eqb b c (sym e))
+
+  pub begins-other : (s : Bytes) → (next s ≡ b → ⊥) → begins (b ∷ []) s ≡ false
+  begins-other [] h = refl
+  begins-other (c ∷ s) h = rw (ne-eqb b c (λ e. h (sym e)))
+
+  pub byte-first : (number : ℕ) (s : Bytes) → next s ≡ b → word number (b ∷ []) s ≡ done (tt, drop 1 s)
+  unfolding word
+  byte-first number s e = rw (begins-first s e)
+
+  pub byte-other : (number : ℕ) (s : Bytes) → (next s ≡ b → ⊥) → word number (b ∷ []) s ≡ refused number
+  unfolding word
+  byte-other number s h = rw (begins-other s h)
+
+-- a word
+begins-length : (w s : Bytes) → begins w s ≡ true → length w ≤ length s
+begins-length [] s e = omega arith
+begins-length (a ∷ w) [] e = absurd (false≢true e)
+begins-length (a ∷ w) (b ∷ s) e = omega (arith, begins-length w s (and-right (eqb a b) (begins w s) e))
+
+pub begins-within : (w text : Bytes) (at : ℕ) → at ≤ length text → begins w (drop at text) ≡ true → at + length w ≤ length text
+begins-within w text at h e = omega (arith, begins-length w (drop at text) e, length-drop at text)
+
+-- at a place
+module _ (text : Bytes) (at b : ℕ) (nonzero : 0 < b) where
+  pub byte-read : (number : ℕ) → next (drop at text) ≡ b → word number (b ∷ []) (drop at text) ≡ done (tt, drop (at + 1) text)
+  byte-read number e = rw (byte-first b nonzero number (drop at text) e, drop-drop 1 at text)
+
+  pub byte-refused : (number : ℕ) → (next (drop at text) ≡ b → ⊥) → word number (b ∷ []) (drop at text) ≡ refused number
+  byte-refused number h = byte-other b nonzero number (drop at text) h
+
+-- items read before those of an outcome
+abbrev pub prepended : {A : Type 0} → List A → Outcome ℕ (List A × Bytes) → Outcome ℕ (List A × Bytes)
+prepended items o = mapped (λ p. (items ++ p .0, p .1)) o
+
+pub prepended-none : {A : Type 0} (o : Outcome ℕ (List A × Bytes)) → o ≡ prepended [] o
+prepended-none (done p) = refl
+prepended-none (refused number) = refl
+
+module _ {A : Type 0} (item : Reader A) (text : Bytes) (i more : ℕ) (items : List A) where
+  pub list-refused : (number : ℕ) → item (drop i text) ≡ refused number → prepended items (upTo more item (drop i text)) ≡ refused number
+  unfolding upTo
+  list-refused number e = rw e
+
+  -- an item is read
+  module _ (a : A) (after : ℕ) (e : item (drop i text) ≡ done (a, drop after text)) where
+    -- what follows it
+    list-next : (o : Outcome ℕ (List A × Bytes)) → further 44 item more (drop after text) ≡ o
+        → prepended items (upTo more item (drop i text)) ≡ prepended (items ++ (a ∷ [])) o
+    unfolding upTo
+    list-next o f = rw (e, f) (pick o)
+      where
+        pick : (o : Outcome ℕ (List A × Bytes)) → prepended items (outcome._>>=_ o λ q. done (a ∷ q .0, q .1)) ≡ prepended (items ++ (a ∷ [])) o
+        pick (done q) = ap (λ l. done (l, q .1)) (sym (append-assoc items (a ∷ []) (q .0)))
+        pick (refused number) = refl
+
+    list-end : further 44 item more (drop after text) ≡ done ([], drop after text)
+        → prepended items (upTo more item (drop i text)) ≡ done (items ++ (a ∷ []), drop after text)
+    list-end f = list-next (done ([], drop after text)) f ∙ ap (λ l. done (l, drop after text)) (append-nil (items ++ (a ∷ [])))
+
+    pub list-full : more ≡ 0 → prepended items (upTo more item (drop i text)) ≡ done (items ++ (a ∷ []), drop after text)
+    unfolding further
+    list-full z = list-end (rw z)
+
+    pub list-last : (next (drop after text) ≡ 44 → ⊥) → prepended items (upTo more item (drop i text)) ≡ done (items ++ (a ∷ []), drop after text)
+    unfolding further
+    list-last h = list-end (stop more)
+      where
+        stop : (n : ℕ) → further 44 item n (drop after text) ≡ done ([], drop after text)
+        stop zero = refl
+        stop (suc n) = rw (ne-eqb (next (drop after text)) 44 h)
+
+    pub list-more : (more ≡ 0 → ⊥) → next (drop after text) ≡ 44
+        → prepended items (upTo more item (drop i text)) ≡ prepended (items ++ (a ∷ [])) (upTo (more - 1) item (drop (after + 1) text))
+    unfolding further upTo
+    list-more some h = list-next (upTo (more - 1) item (drop (after + 1) text)) (go more some)
+      where
+        go : (n : ℕ) → (n ≡ 0 → ⊥) → further 44 item n (drop after text) ≡ upTo (n - 1) item (drop (after + 1) text)
+        go zero some = absurd (some refl)
+        go (suc n) some = rw (eq-eqb (next (drop after text)) 44 h, sub-one (suc n), drop-drop 1 after text)
+
+-- As many items as there are bytes are enough, since an item leaves no more than it was read from.
+
+abbrev pub Shorter : {A : Type 0} → Bytes → A × Bytes → Type 0
+Shorter s p = length (p .1) ≤ length s
+
+abbrev pub Shrinks : {A : Type 0} → Reader A → Type 0
+Shrinks item = (s : Bytes) → Allowed (Shorter s) (item s)
+
+module _ {A : Type 0} (item : Reader A) (shrinks : Shrinks item) where
+  -- an item, and those behind it
+  abbrev onward : ℕ → Outcome ℕ (A × Bytes) → Outcome ℕ (List A × Bytes)
+  onward most o = outcome._>>=_ o λ p. outcome._>>=_ (further 44 item most (p .1)) λ q. done (p .0 ∷ q .0, q .1)
+
+  abbrev Alike : ℕ → ℕ → Type 0
+  Alike most more = (s : Bytes) → length s ≤ most → length s ≤ more → further 44 item most s ≡ further 44 item more s
+
+  onward-alike : (most more : ℕ) → Alike most more → (s : Bytes) → length s ≤ most → length s ≤ more → onward most (item s) ≡ onward more (item s)
+  onward-alike most more alike s h k = pick (item s) (shrinks s)
+    where
+      pick : (o : Outcome ℕ (A × Bytes)) → Allowed (Shorter s) o → onward most o ≡ onward more o
+      pick (done p) l = rw (alike (p .1) (omega arith) (omega arith))
+      pick (refused number) l = refl
+
+  further-alike : (most more : ℕ) → Alike most more
+  unfolding further
+  further-alike zero zero s h k = refl
+  further-alike zero (suc more) [] h k = refl
+  further-alike zero (suc more) (b ∷ s) h k = absurd (omega arith)
+  further-alike (suc most) zero [] h k = refl
+  further-alike (suc most) zero (b ∷ s) h k = absurd (omega arith)
+  further-alike (suc most) (suc more) [] h k = refl
+  further-alike (suc most) (suc more) (b ∷ s) h k =
+      pick (eqb b 44) (onward-alike most more (λ t. further-alike most more t) s (omega arith) (omega arith))
+    where
+      pick : (c : Bool) → onward most (item s) ≡ onward more (item s)
+          → cond c (λ t. onward most (item (drop 1 t))) (give []) (b ∷ s) ≡ cond c (λ t. onward more (item (drop 1 t))) (give []) (b ∷ s)
+      pick true e = e
+      pick false e = refl
+
+  pub upTo-separated : (most : ℕ) (s : Bytes) → length s ≤ most → upTo most item s ≡ separated 44 item s
+  unfolding upTo separated
+  upTo-separated most s h = pick (item s) (shrinks s)
+    where
+      pick : (o : Outcome ℕ (A × Bytes)) → Allowed (Shorter s) o
+          → onward most o ≡ outcome._>>=_ o λ p. outcome._>>=_ (further 44 item (length (p .1)) (p .1)) λ q. done (p .0 ∷ q .0, q .1)
+      pick (done p) l = rw (further-alike most (length (p .1)) (p .1) (omega arith) (omega arith))
+      pick (refused number) l = refl
+
+-- Two items with a comma between them and a bracket behind them are a list of two.
+
+module _ {A B : Type 0} (item : Reader A) (pair : A → A → B) (finish : List A → Reader B) where
+  abbrev pub readPair : Reader B
+  readPair s =
+      outcome._>>=_ (item s) λ p.
+      outcome._>>=_ (word 5 (44 ∷ []) (p .1)) λ q.
+      outcome._>>=_ (item (q .1)) λ r.
+      outcome._>>=_ (word 5 (41 ∷ []) (r .1)) λ z.
+      done (pair (p .0) (r .0), z .1)
+
+  module _ (two : (a b : A) (s : Bytes) → finish (a ∷ b ∷ []) s ≡ (outcome._>>=_ (word 5 (41 ∷ []) s) λ z. done (pair a b, z .1)))
+      (one : (a : A) (s : Bytes) → finish (a ∷ []) s ≡ refused 5) where
+    -- behind the first
+    abbrev firstOf : A → Outcome ℕ (List A × Bytes) → Outcome ℕ (B × Bytes)
+    firstOf a o = outcome._>>=_ {A = List A × Bytes} (outcome._>>=_ o λ q. done (a ∷ q .0, q .1)) λ p. finish (p .0) (p .1)
+
+    abbrev secondOf : A → Outcome ℕ (A × Bytes) → Outcome ℕ (B × Bytes)
+    secondOf a o = outcome._>>=_ o λ r. outcome._>>=_ (word 5 (41 ∷ []) (r .1)) λ z. done (pair a (r .0), z .1)
+
+    behind-comma : (a : A) (o : Outcome ℕ (A × Bytes)) → firstOf a (outcome._>>=_ o λ r. done (r .0 ∷ [], r .1)) ≡ secondOf a o
+    behind-comma a (done r) = two a (r .0) (r .1)
+    behind-comma a (refused number) = refl
+
+    behind-first : (a : A) (t : Bytes) (b : Bool) → eqb (next t) 44 ≡ b
+        → firstOf a (further 44 item 1 t) ≡ (outcome._>>=_ (word 5 (44 ∷ []) t) λ q. secondOf a (item (q .1)))
+    unfolding further
+    behind-first a t true e = rw (e, byte-first 44 (omega arith) 5 t (eqb-true (next t) 44 e)) (behind-comma a (item (drop 1 t)))
+    behind-first a t false e = rw (e, byte-other 44 (omega arith) 5 t (eqb-false (next t) 44 e)) (one a t)
+
+    pub pair-list : (s : Bytes) → (outcome._>>=_ (upTo 1 item s) λ p. finish (p .0) (p .1)) ≡ readPair s
+    unfolding upTo
+    pair-list s = pick (item s)
+      where
+        pick : (o : Outcome ℕ (A × Bytes))
+            → (outcome._>>=_ {A = List A × Bytes} (outcome._>>=_ o λ p. outcome._>>=_ (further 44 item 1 (p .1)) λ q. done (p .0 ∷ q .0, q .1)) λ p. finish (p .0) (p .1))
+            ≡ (outcome._>>=_ o λ p. outcome._>>=_ (word 5 (44 ∷ []) (p .1)) λ q. secondOf (p .0) (item (q .1)))
+        pick (done p) = behind-first (p .0) (p .1) (eqb (next (p .1)) 44) refl
+        pick (refused number) = refl

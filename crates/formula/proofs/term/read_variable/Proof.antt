@@ -1,0 +1,75 @@
+-- `term::read_variable` lists a variable and stores the word of its index.
+-- Assumes nothing.
+use borrow.Author.Needs.{needs}
+use native.Mathlib.Omega.{arith}
+use Prim.Native.Nat.{_≤_}
+use mathlib.Core.Path.{_≡_, subst}
+use Rattle.logic.specs.Reading.{readVariable}
+use Rattle.formula.specs.memory.Bindings.{boundIn}
+use Rattle.formula.specs.memory.TermReads.{ToldWord}
+use Rattle.formula.proofs.memory.TermReads.{variable-entered, variable-refused}
+use Rattle.formula.proofs.term.read_variable.Statement.{statement}
+use Rattle.formula.proofs.term.read_variable.Tie as tie
+
+variable-end-requires : tie.Need-variable-end-requires
+variable-end-requires c κs = search needs
+
+enum-known-next : tie.Need-enum-known-next
+enum-known-next c = search needs
+
+sub-size : tie.Need-sub-size
+sub-size c =
+    let f = subst (ToldWord readVariable (c .before .before .before .before .before .before .args .text .now) (c .before .before .before .before .before .before .args .at)) (c .before .next .given .1) (c .before .before .before .variable-end .ensures) in
+    omega (arith, f .after)
+
+list-name-requires : tie.Need-list-name-requires
+list-name-requires c κs =
+    let f = subst (ToldWord readVariable (c .before .before .before .before .before .before .before .args .text .now) (c .before .before .before .before .before .before .before .args .at)) (c .before .before .next .given .1) (c .before .before .before .before .variable-end .ensures) in
+    (omega arith, omega (arith, f .within))
+
+mul-put : tie.Need-mul-put
+mul-put c = omega (arith, c .before .list-name .ensures .small)
+
+add-put : tie.Need-add-put
+add-put c = omega (arith, c .before .list-name .ensures .small)
+
+put-requires : tie.Need-put-requires
+put-requires c κs = search needs
+
+is-bound-requires : tie.Need-is-bound-requires
+is-bound-requires c κs = search needs
+
+enum-told : tie.Need-enum-told
+enum-told c = search needs
+
+same-length : tie.Need-same-length
+same-length c = search needs
+
+returns : tie.Need-returns
+returns c =
+    let a = c .before .before .before .before .before .before .before .before .before .before .before .before .before .args in
+    λ n.
+    rw (c .before .before .before .put .ensures)
+    (variable-entered (a .text .now) n (boundIn (a .text .now) (a .scope)) (a .at) (a .names .now) (a .work .now) (a .to) (c .before .before .before .before .before .before .before .before .next .given .0 .0) (c .before .before .before .before .before .list-name .result) _ (c .is-bound .result) (subst (ToldWord readVariable (a .text .now) (a .at)) (c .before .before .before .before .before .before .before .before .next .given .1) (c .before .before .before .before .before .before .before .before .before .before .variable-end .ensures)) (c .before .before .before .before .before .list-name .ensures) (c .is-bound .ensures))
+
+returns-2 : tie.Need-returns-2
+returns-2 c =
+    let a = c .before .before .before .before .before .args in
+    λ n. variable-refused (a .text .now) n (boundIn (a .text .now) (a .scope)) (a .at) (a .names .now) (a .work .now) (a .to) (subst (ToldWord readVariable (a .text .now) (a .at)) (c .enum-told .given .1) (c .before .before .variable-end .ensures))
+
+pub read-variable-spec : {M : Type 1} → statement M
+read-variable-spec =
+    tie.close
+    (tie.spec
+    variable-end-requires
+    enum-known-next
+    sub-size
+    list-name-requires
+    mul-put
+    add-put
+    put-requires
+    is-bound-requires
+    enum-told
+    same-length
+    returns
+    returns-2)

@@ -1,0 +1,40 @@
+-- What the code tells of a formula at a place of the theory's text.
+use Prim.Native.Nat.{ℕ, _+_, _≤_}
+use mathlib.Core.Path.{_≡_}
+use mathlib.Core.List.{List, [], _∷_}
+use mathlib.Core.Bool.{true, false}
+use lib.ListN.{length, drop}
+use Rattle.text.specs.Bytes.{bytes}
+use Rattle.text.specs.Outcome.{done, refused}
+use Rattle.text.specs.Reading.{Reader, give, _⇒_, oneOf}
+use Rattle.logic.specs.Formula.{Formula, truth, size}
+use Rattle.logic.specs.Text.{truthText}
+use Rattle.logic.specs.Reading.{readEquality, readAtom}
+use Rattle.logic.specs.Names.{known}
+use Rattle.logic.specs.Limits.{variables}
+use Rattle.formula.specs.memory.Words.{words}
+use Rattle.formula.specs.memory.Facts.{factsOf}
+use Rattle.formula.specs.memory.Entries.{Setting, Memory, Entered}
+use Rattle.formula.specs.declared.fact.Facts.{Facts}
+use Rattle.formula.specs.declared.read.Read.{Read}
+use Rattle.formula.specs.declared.read.Read.the-variants as read
+
+-- a formula is read, measured, judged and entered
+pub record Found (reader : Reader Formula) (s : Setting) (at : ℕ) (old : Memory) (to next extent : ℕ) (facts : Facts) (new : Memory) : Type 0 where
+  pub formula : Formula
+  pub is : reader (drop at (s .text)) ≡ done (formula, drop next (s .text))
+  pub measured : extent ≡ size formula
+  pub judged : facts ≡ factsOf (s .problem) (s .bound) formula
+  pub after : at + extent ≤ next
+  pub within : next ≤ length (s .text)
+  pub entered : Entered (s .text) (variables formula) (known (s .problem) formula) (λ ix. words ix (s .index) formula) old to new
+
+abbrev pub Told : Reader Formula → Setting → ℕ → Memory → ℕ → Read → Memory → Type 0
+Told reader s at old to (read.Done next extent facts) new = Found reader s at old to next extent facts new
+Told reader s at old to read.Malformed new = reader (drop at (s .text)) ≡ refused 5
+Told reader s at old to read.Deep new = reader (drop at (s .text)) ≡ refused 6
+
+-- a formula with no formula in it
+unfoldable pub readLeaf : Reader Formula
+readLeaf =
+    oneOf (truthText true ⇒ give (truth true) ∷ truthText false ⇒ give (truth false) ∷ bytes "=(" ⇒ readEquality ∷ []) readAtom
