@@ -30,3 +30,5 @@ pub mod Lists
 pub mod Entries
 pub mod TermReads
 pub mod Leaves
+pub mod Deciding
+pub mod Decided

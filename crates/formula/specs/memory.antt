@@ -18,3 +18,4 @@ pub mod Lists
 pub mod Entries
 pub mod TermReads
 pub mod FormulaReads
+pub mod Deciding

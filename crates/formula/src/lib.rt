@@ -2,6 +2,7 @@
 pub mod binding;
 pub mod clause;
 pub mod cursor;
+pub mod decide;
 pub mod fact;
 pub mod guard;
 pub mod head;

@@ -1,0 +1,62 @@
+-- `decide::elements_only` goes through terms up to the first that is no element. The invariant: the answer is that of the terms from here.
+-- Assumes nothing.
+use borrow.Author.Needs.{needs}
+use native.Mathlib.Omega.{arith}
+use Prim.Native.Nat.{_+_, _≤_}
+use mathlib.Core.Path.{_≡_, refl, sym, _∙_}
+use lib.ListN.{drop}
+use Rattle.formula.specs.memory.Deciding.{elementsAt}
+use Rattle.formula.proofs.memory.Deciding.{elements-none, elements-more, elements-stop}
+use Rattle.formula.proofs.decide.elements_only.Statement.{statement}
+use Rattle.formula.proofs.decide.elements_only.Tie as tie
+
+abbrev Inv-loop : tie.InvT-loop
+Inv-loop work at count i₀ pending₀ i pending = (pending ≤ count) × (i + pending ≡ at + count) × (elementsAt count (drop at work) ≡ elementsAt pending (drop i work))
+
+abbrev μ-loop : tie.MeasureT-loop
+μ-loop work at count i₀ pending₀ i pending = pending
+
+loop-holds : tie.Need-loop-holds Inv-loop μ-loop
+loop-holds c = (omega arith, refl, refl)
+
+peek-requires : tie.Need-peek-requires Inv-loop μ-loop
+peek-requires c κs = search needs
+
+returns : tie.Need-returns Inv-loop μ-loop
+returns c =
+    let l = c .before .before .before .loop in
+    sym (l .inv .2 ∙ elements-stop (c .before .before .before .before .before .args .work .now) (l .i) (l .pending) (omega arith) (λ e. c .if1 .taken (rw (c .before .peek .ensures) e)))
+
+add-i : tie.Need-add-i Inv-loop μ-loop
+add-i c = search needs
+
+sub-pending : tie.Need-sub-pending Inv-loop μ-loop
+sub-pending c = search needs
+
+loop-less : tie.Need-loop-less Inv-loop μ-loop
+loop-less c = search needs
+
+loop-again : tie.Need-loop-again Inv-loop μ-loop
+loop-again c =
+    let l = c .before .before .before .loop in
+    (omega arith, omega arith, l .inv .2 ∙ elements-more (c .before .before .before .before .before .args .work .now) (l .i) (l .pending) (omega arith) (rw (c .before .peek .ensures) at (c .if1 .left)))
+
+returns-2 : tie.Need-returns-2 Inv-loop μ-loop
+returns-2 c =
+    let l = c .before .loop in
+    sym (l .inv .2 ∙ elements-none (l .pending) (drop (l .i) (c .before .before .before .args .work .now)) (omega arith))
+
+pub elements-only-spec : {M : Type 1} → statement M
+elements-only-spec =
+    tie.close
+    (tie.spec
+    Inv-loop
+    μ-loop
+    loop-holds
+    peek-requires
+    returns
+    add-i
+    sub-pending
+    loop-less
+    loop-again
+    returns-2)

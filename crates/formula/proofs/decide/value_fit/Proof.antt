@@ -1,0 +1,32 @@
+-- `decide::value_fit` evaluates an atom or equality whose terms are elements.
+-- Assumes nothing.
+use borrow.Author.Needs.{needs}
+use mathlib.Core.Path.{sym, _∙_}
+use borrow.Author.Tests.{not-true, not-false}
+use Rattle.formula.proofs.memory.Deciding.{value-misfit, value-fits}
+use Rattle.formula.proofs.decide.value_fit.Statement.{statement}
+use Rattle.formula.proofs.decide.value_fit.Tie as tie
+
+add-elements-only : tie.Need-add-elements-only
+add-elements-only c = search needs
+
+elements-only-requires : tie.Need-elements-only-requires
+elements-only-requires c κs = search needs
+
+returns : tie.Need-returns
+returns c =
+    let a = c .before .before .before .before .args in
+    value-misfit (a .table) (a .rows .now) (a .work .now) (a .at) (a .terms) (sym (c .before .elements-only .ensures) ∙ not-true _ (c .if1 .taken))
+
+evaluate-requires : tie.Need-evaluate-requires
+evaluate-requires c κs = search needs
+
+returns-2 : tie.Need-returns-2
+returns-2 c =
+    let a = c .before .before .before .before .before .args in
+    value-fits (a .table) (a .rows .now) (a .work .now) (a .at) (a .terms) _ (sym (c .before .before .elements-only .ensures) ∙ not-false _ (c .before .if1 .left)) (c .evaluate .ensures)
+
+pub value-fit-spec : {M : Type 1} → statement M
+value-fit-spec =
+    tie.close
+    (tie.spec add-elements-only elements-only-requires returns evaluate-requires returns-2)
