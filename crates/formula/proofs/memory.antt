@@ -32,3 +32,4 @@ pub mod TermReads
 pub mod Leaves
 pub mod Deciding
 pub mod Decided
+pub mod Admitted

@@ -19,3 +19,4 @@ pub mod Entries
 pub mod TermReads
 pub mod FormulaReads
 pub mod Deciding
+pub mod Admitted

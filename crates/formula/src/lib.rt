@@ -1,4 +1,5 @@
 // Formulas in memory: read from text, walked, evaluated, rewritten and printed.
+pub mod admit;
 pub mod binding;
 pub mod clause;
 pub mod cursor;

@@ -39,7 +39,7 @@ low-bind ρ y v h low x = pick (same x y)
     pick true = h
     pick false = low x
 
-map-countFrom : (u w : ℕ → Bool) (n k : ℕ) → ((v : ℕ) → k ≤ v → v < k + n → u v ≡ w v) → map u (countFrom k n) ≡ map w (countFrom k n)
+pub map-countFrom : (u w : ℕ → Bool) (n k : ℕ) → ((v : ℕ) → k ≤ v → v < k + n → u v ≡ w v) → map u (countFrom k n) ≡ map w (countFrom k n)
 map-countFrom u w zero k e = refl
 map-countFrom u w (suc n) k e =
     ap₂ (λ (b : Bool) (bs : List Bool). b ∷ bs) (e k (omega arith) (omega arith)) (map-countFrom u w n (suc k) (λ v h l. e v (omega arith) (omega arith)))

@@ -27,7 +27,7 @@ junction-side : (c : Side) (x : ℕ) → sideOf (eqb ((x * 16 + quantifierTag c)
 junction-side all x = let e : (x * 16 + 8) % 16 ≡ 8 = omega arith in rw (eq-eqb ((x * 16 + 8) % 16) 8 e)
 junction-side any x = let e : (x * 16 + 9) % 16 ≡ 8 → ⊥ = λ q. omega arith in rw (ne-eqb ((x * 16 + 9) % 16) 8 e)
 
-quantifier-index : (c : Side) (x : ℕ) → (x * 16 + quantifierTag c) / 16 ≡ x
+pub quantifier-index : (c : Side) (x : ℕ) → (x * 16 + quantifierTag c) / 16 ≡ x
 quantifier-index all x = omega arith
 quantifier-index any x = omega arith
 

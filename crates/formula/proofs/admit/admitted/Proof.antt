@@ -1,0 +1,94 @@
+-- `admit::admitted` evaluates the guard for each element. The invariant: the flags of the elements from the next one on are still to be stored.
+-- Assumes nothing.
+use borrow.Author.Needs.{needs}
+use native.Mathlib.Omega.{arith}
+use Prim.Native.Nat.{ℕ, _+_, _-_, _≤_}
+use mathlib.Core.Path.{_≡_, sym, ap, _∙_}
+use mathlib.Core.List.{List}
+use mathlib.Core.Bool.{Bool, false}
+use lib.ListN.{take, drop, replicate}
+use lib.Seq.{sets}
+use Rattle.formula.specs.memory.Values.{trueAt}
+use Rattle.formula.specs.memory.Admitted.{guardAdmits, admittedFlags}
+use Rattle.formula.proofs.memory.Admitted.{flagsFrom, flags-next, flags-none, flags-first, admits-here}
+use Rattle.formula.proofs.admit.admitted.Statement.{statement}
+use Rattle.formula.proofs.admit.admitted.Tie as tie
+
+abbrev Inv-loop : tie.InvT-loop
+Inv-loop work at levels table rows variable domain none flags₀ i₀ flags i =
+    (i ≤ table .domain) × (sets (replicate 64 false) 0 (admittedFlags table rows levels (drop at work)) ≡ sets flags i (flagsFrom (guardAdmits table rows levels (drop at work)) (table .domain) i))
+
+abbrev μ-loop : tie.MeasureT-loop
+μ-loop work at levels table rows variable domain none flags₀ i₀ flags i = table .domain - i
+
+peek-requires : tie.Need-peek-requires Inv-loop μ-loop
+peek-requires c κs = search needs
+
+loop-holds : tie.Need-loop-holds Inv-loop μ-loop
+loop-holds c =
+    let e : c .before .before .before .args .table .domain ≡ c .before .before .before .args .table .domain - 0 = omega arith in
+    (omega arith, rw (← e))
+
+add-with-value : tie.Need-add-with-value Inv-loop μ-loop
+add-with-value c = search needs
+
+with-value-requires : tie.Need-with-value-requires Inv-loop μ-loop
+with-value-requires c κs = search needs
+
+add-evaluate : tie.Need-add-evaluate Inv-loop μ-loop
+add-evaluate c = search needs
+
+evaluate-requires : tie.Need-evaluate-requires Inv-loop μ-loop
+evaluate-requires c κs = search needs
+
+cast-flags : tie.Need-cast-flags Inv-loop μ-loop
+cast-flags c = search needs
+
+array-write-flags : tie.Need-array-write-flags Inv-loop μ-loop
+array-write-flags c = search needs
+
+add-i : tie.Need-add-i Inv-loop μ-loop
+add-i c = search needs
+
+loop-less : tie.Need-loop-less Inv-loop μ-loop
+loop-less c = search needs
+
+loop-again : tie.Need-loop-again Inv-loop μ-loop
+loop-again c =
+    let a = c .before .before .before .before .before .before .before .args in
+    let l = c .before .before .before .loop in
+    let s = drop (a .at) (a .work .now) in
+    let g : ℕ → Bool = guardAdmits (a .table) (a .rows .now) (a .levels) s in (
+      omega arith,
+      l .inv .1
+          ∙ flags-next g (a .table .domain) (l .flags) (l .i) (c .evaluate .result) (omega arith)
+          (admits-here (a .work .now) (a .at) (a .levels) _ (c .before .before .before .before .peek .ensures) (a .table) (a .rows .now) (l .i + 1) _
+          (c .evaluate .ensures ∙ ap (λ (values : List ℕ). trueAt (a .table) (a .rows .now) (a .levels) values (drop (a .at + 1) (a .work .now))) (c .before .with-value .ensures))),
+    )
+
+returns : tie.Need-returns Inv-loop μ-loop
+returns c =
+    let a = c .before .before .before .before .before .args in
+    let l = c .before .loop in
+    let g : ℕ → Bool = guardAdmits (a .table) (a .rows .now) (a .levels) (drop (a .at) (a .work .now)) in
+    ap (take (a .table .domain)) (sym (l .inv .1 ∙ flags-none g (a .table .domain) (l .flags) (l .i) (omega arith)))
+    ∙ flags-first g (a .table .domain) (omega arith)
+
+pub admitted-spec : {M : Type 1} → statement M
+admitted-spec =
+    tie.close
+    (tie.spec
+    Inv-loop
+    μ-loop
+    peek-requires
+    loop-holds
+    add-with-value
+    with-value-requires
+    add-evaluate
+    evaluate-requires
+    cast-flags
+    array-write-flags
+    add-i
+    loop-less
+    loop-again
+    returns)

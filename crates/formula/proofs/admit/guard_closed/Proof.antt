@@ -1,0 +1,34 @@
+-- `admit::guard_closed` asks whether the guard is closed but for the quantifier's variable.
+-- Assumes nothing.
+use borrow.Author.Needs.{needs}
+use mathlib.Core.Path.{ap, _∙_}
+use mathlib.Core.List.{List}
+use mathlib.Core.Bool.{Bool}
+use Prim.Native.Nat.{_+_}
+use lib.ListN.{drop}
+use Rattle.formula.specs.memory.Flags.{closedAt}
+use Rattle.formula.proofs.memory.Admitted.{closed-here}
+use Rattle.formula.proofs.admit.guard_closed.Statement.{statement}
+use Rattle.formula.proofs.admit.guard_closed.Tie as tie
+
+peek-requires : tie.Need-peek-requires
+peek-requires c κs = search needs
+
+with-flag-requires : tie.Need-with-flag-requires
+with-flag-requires c κs = search needs
+
+add-closed-at : tie.Need-add-closed-at
+add-closed-at c = search needs
+
+closed-at-requires : tie.Need-closed-at-requires
+closed-at-requires c κs = search needs
+
+returns : tie.Need-returns
+returns c =
+    let a = c .before .before .before .before .args in
+    closed-here (a .work .now) (a .at) (a .levels) _ (c .before .before .peek .ensures) _
+    (c .closed-at .ensures ∙ ap (λ (flags : List Bool). closedAt (a .levels) flags (drop (a .at + 1) (a .work .now))) (c .before .with-flag .ensures))
+
+pub guard-closed-spec : {M : Type 1} → statement M
+guard-closed-spec =
+    tie.close (tie.spec peek-requires with-flag-requires add-closed-at closed-at-requires returns)
