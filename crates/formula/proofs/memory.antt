@@ -33,3 +33,4 @@ pub mod Leaves
 pub mod Deciding
 pub mod Decided
 pub mod Admitted
+pub mod Rewriting

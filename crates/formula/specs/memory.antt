@@ -20,3 +20,4 @@ pub mod TermReads
 pub mod FormulaReads
 pub mod Deciding
 pub mod Admitted
+pub mod Rewriting

@@ -12,6 +12,7 @@ pub mod leaf;
 pub mod name_table;
 pub mod print;
 pub mod read;
+pub mod rewrite;
 pub mod scope;
 pub mod signature;
 pub mod simplify;

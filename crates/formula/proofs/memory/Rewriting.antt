@@ -1,0 +1,140 @@
+-- A rule at a place of memory: what is stored for each decision, and that it is the words of the theory with what the rule makes in the formula's place.
+-- Assumes nothing.
+use Prim.Native.Nat.{ℕ, _+_, _-_, _≤_, _<_}
+use native.Mathlib.Omega.{arith}
+use mathlib.Core.Path.{_≡_, sym, ap, subst, _∙_}
+use mathlib.Core.List.{List, _∷_, _++_, map, append-assoc}
+use mathlib.Core.Bool.{Bool, true, false, cond}
+use lib.ListN.{length, getD, take, drop, take-append-drop, length-take, length-append}
+use lib.Seq.{slice, sets, length-take-le, take-take, take-append-seam, take-append-add, drop-append-seam, drop-append-add}
+use Rattle.text.specs.Bytes.{Bytes}
+use Rattle.text.specs.Outcome.{Outcome, done, refused}
+use Rattle.text.specs.Problem.{Name, Problem}
+use Rattle.text.specs.memory.Table.{position, tableNames, problemIn}
+use Rattle.text.specs.memory.RuleLines.{ruleOf}
+use Rattle.text.specs.declared.table.Table.{Table}
+use Rattle.text.specs.declared.rule_line.Rule.{Rule}
+use Rattle.text.proofs.Problem.{Valid}
+use Rattle.logic.specs.Formula.{Side, Formula, truth, quantifier, size}
+use Rattle.logic.specs.Names.{known, closedBut}
+use Rattle.logic.specs.Meaning.{elementsTo}
+use Rattle.logic.specs.Rules.{simplified, admits, instantiated, apply}
+use Rattle.formula.specs.memory.Kinds.{skip}
+use Rattle.formula.specs.memory.Words.{words}
+use Rattle.formula.specs.memory.Instances.{instantiatedWords}
+use Rattle.formula.specs.memory.Storing.{Stores, spliced, Rewritten}
+use Rattle.formula.specs.memory.Rewriting.{endWithin, fitWords, rewrittenWords, Standing}
+use Rattle.formula.specs.memory.Deciding.{ruleFit}
+use Rattle.formula.specs.declared.decide.Fit.{Fit}
+use Rattle.formula.specs.declared.decide.Fit.the-variants as fit
+use Rattle.formula.proofs.memory.Kinds.{skip-turn}
+use Rattle.formula.proofs.memory.Naming.{Naming, wordsIn, Storable}
+use Rattle.formula.proofs.memory.Words.{length-words, skip-first}
+use Rattle.formula.proofs.memory.Standing.{drop-take}
+use Rattle.formula.proofs.memory.Storing.{slice-next}
+use Rattle.formula.proofs.memory.Simplification.{simplified-stands}
+use Rattle.formula.proofs.memory.Instantiated.{instantiated-stands}
+use Rattle.formula.proofs.memory.Decided.{QuantifierFits, Told, rule-told}
+
+take-slice : (k n : ℕ) (s : List ℕ) → k ≤ n → take k s ++ slice k n s ≡ take n s
+take-slice k n s h = rw (← take-take k n s h) (take-append-drop k (take n s))
+
+-- a formula in its own place
+spliced-same : (old : List ℕ) (at end full : ℕ) → at < end → end ≤ full → full ≤ length old
+    → spliced old at end full (getD old at 0 ∷ slice (at + 1) end old) ≡ slice 0 full old
+spliced-same old at end full h k l =
+    ap (λ (s : List ℕ). take at old ++ (s ++ slice end full old)) (sym (slice-next at end old h (omega arith)))
+    ∙ sym (append-assoc (take at old) (slice at end old) (slice end full old))
+    ∙ rw (take-slice at end old (omega arith)) (take-slice end full old k)
+
+module _ (old : List ℕ) (at full to : ℕ) (p : Standing old at full to) (end : ℕ) (ends : end ≡ endWithin old at full) where
+  pub end-after : at < end
+  end-after =
+      let l = length-take-le full old (omega (arith, p)) in
+      let z = skip-turn (take full old) at 1 (omega (arith, p .here)) (omega arith) in
+      omega arith
+
+  module _ (flags : List Bool) (decided : Fit) where
+    -- what is stored for a decision
+    pub stored-as : {new work : List ℕ} {total : ℕ} → new ≡ fitWords decided (getD old at 0) (slice (at + 1) end old) flags → Rewritten old at end full to new total work
+        → Rewritten old at (endWithin old at full) full to (rewrittenWords decided old at full flags) total work
+    unfolding rewrittenWords
+    stored-as e s = rw (← ends, ← e) s
+
+    -- the theory as it was
+    pub stored-same : {work : List ℕ} {total : ℕ} → end ≤ full → decided ≡ fit.Misfit → Stores old to (slice 0 full old) total work
+        → Rewritten old at (endWithin old at full) full to (rewrittenWords decided old at full flags) (total - to) work
+    stored-same h e s =
+        let same = spliced-same old at end full end-after h (omega (arith, p)) in
+        stored-as {new = getD old at 0 ∷ slice (at + 1) end old} (rw e)
+        (record { holds = s .holds ∙ ap (sets old to) (sym same); sized = rw same (omega (arith, s .ends)) })
+
+-- A theory's words, among them some in the middle: these stand at their place, and give way to others there.
+module _ (old : List ℕ) (full : ℕ) (before middle after : List ℕ) (theory : take full old ≡ before ++ (middle ++ after)) where
+  pub middle-stands : drop (length before) old ≡ middle ++ (after ++ drop full old)
+  middle-stands =
+      ap (drop (length before)) (sym (take-append-drop full old) ∙ ap (λ (s : List ℕ). s ++ drop full old) theory ∙ append-assoc before (middle ++ after) (drop full old))
+      ∙ drop-append-seam before ((middle ++ after) ++ drop full old) ∙ append-assoc middle after (drop full old)
+
+  pub spliced-middle : (new : List ℕ) → spliced old (length before) (length before + length middle) full new ≡ before ++ (new ++ after)
+  spliced-middle new =
+      let long = sym (length-take full old) ∙ ap length theory ∙ length-append before (middle ++ after) in
+      let first : take (length before) old ≡ before =
+      sym (take-take (length before) full old (omega arith)) ∙ ap (take (length before)) theory ∙ take-append-seam before (middle ++ after) in
+      let last : slice (length before + length middle) full old ≡ after =
+      ap (drop (length before + length middle)) theory ∙ drop-append-add before (middle ++ after) (length middle) ∙ drop-append-seam middle after in
+      rw (first, last)
+
+-- where the words of f stand, and f ends within the theory
+end-words : (N : Naming) (f : Formula) (old : List ℕ) (at full : ℕ) (rest : List ℕ) → drop at old ≡ wordsIn N f ++ rest → at + size f ≤ full
+    → endWithin old at full ≡ at + size f
+end-words N f old at full rest stands h =
+    let n = full - at - size f in
+    let e : full ≡ at + (size f + n) = omega arith in
+    ap (λ (k : ℕ). at + skip (slice at k old) 1) e ∙ ap (λ (s : List ℕ). at + skip s 1) (range n) ∙ rw (skip-first N f (take n rest), length-words N f)
+  where
+    range : (n : ℕ) → slice at (at + (size f + n)) old ≡ wordsIn N f ++ take n rest
+    range n = rw (drop-take at (size f + n) old, stands, ← length-words N f) (take-append-add (wordsIn N f) rest n)
+
+module _ (N : Naming) (text : Bytes) (table : Table) (rows : List ℕ) (inside : table .inputs ≤ table .count)
+    (valid : Valid (problemIn text table rows)) (index : (p : Name) → N .predicateIndex p ≡ position p (tableNames text table)) where
+  abbrev P : Problem
+  P = problemIn text table rows
+
+  -- the flags are those of the guard, if f is a quantifier
+  abbrev pub Admitted : List Bool → Formula → Type 0
+  Admitted flags f = (c : Side) (x : Name) (g h : Formula) → f ≡ quantifier c x g h → flags ≡ map (admits P x g) (elementsTo (P .domain))
+
+  module _ (f h : Formula) (storable : Storable N f) (isKnown : known P f ≡ true) (old : List ℕ) (at full : ℕ) (rest : List ℕ)
+      (stands : drop at old ≡ wordsIn N f ++ rest) (within : at + size f ≤ full) (flags : List Bool) (admitted : Admitted flags f) where
+    instantiated-fits : (t : QuantifierFits P f (done h)) → instantiatedWords (getD old at 0) (slice (at + 1) (at + size f) old) flags ≡ wordsIn N h
+    instantiated-fits t = pick (closedBut (t .name) (t .guard)) (t .makes)
+      where
+        can : Storable N (quantifier (t .side) (t .name) (t .guard) (t .body))
+        can = subst (Storable N) (t .is) storable
+
+        pick : (b : Bool) → _≡_ {A = Outcome ℕ Formula} (done h) (cond b (done (instantiated P (t .side) (t .name) (t .guard) (t .body))) (refused 14))
+            → instantiatedWords (getD old at 0) (slice (at + 1) (at + size f) old) flags ≡ wordsIn N h
+        pick true e =
+            let same : h ≡ instantiated P (t .side) (t .name) (t .guard) (t .body) = cc in
+            rw same
+            (instantiated-stands N P (t .name) (can .0) (t .guard) (t .body) (can .2) (t .side) old at (at + size f) rest flags (rw (t .is) at stands) (rw (t .is))
+            (admitted (t .side) (t .name) (t .guard) (t .body) (t .is)))
+        pick false e = let z : _≡_ {A = ℕ} 0 1 = cc in absurd (omega arith)
+
+    fit-words : (decided : Fit) → Told P f (done h) decided → fitWords decided (getD old at 0) (slice (at + 1) (at + size f) old) flags ≡ wordsIn N h
+    unfolding words
+    fit-words (fit.Value b) told = let same : truth b ≡ h = cc in rw (← same)
+    fit-words (fit.Junction every) told =
+        let same : simplified (told .side) (told .parts) ≡ h = cc in
+        rw (← told .sided, ← same)
+        (simplified-stands N (told .side) (told .parts) old at (at + size f) rest (rw (told .is) at stands) (rw (told .is)))
+    fit-words fit.Quantifier told = instantiated-fits told
+    fit-words fit.Misfit told = let z : _≡_ {A = ℕ} 0 1 = cc in absurd (omega arith)
+
+    -- what is stored for a rule that makes h of f is the words of h
+    pub rule-words : (rule : Rule) → apply P (ruleOf rule) f ≡ done h → rewrittenWords (ruleFit table rows rule (drop at old)) old at full flags ≡ wordsIn N h
+    unfolding rewrittenWords
+    rule-words rule e =
+        rw (end-words N f old at full rest stands within)
+        (fit-words (ruleFit table rows rule (drop at old)) (rw (stands, ← e) (rule-told N text table rows inside valid index rule f rest storable isKnown)))
