@@ -11,10 +11,11 @@ use lib.Dec.{ltb}
 use lib.ListN.{length, getD, take, drop, length-append}
 use lib.Seq.{drop-drop, take-append-seam, drop-append-seam}
 use Rattle.text.specs.Outcome.{Outcome, done, refused, mapped}
-use Rattle.text.specs.Problem.{Name}
+use Rattle.text.specs.Problem.{Name, Problem}
 use Rattle.text.proofs.Places.{next-within}
 use Rattle.logic.specs.Formula.{Side, Connective, Formula, truth, atom, equal, connective, quantifier, Formulas, noParts, part, depth, depths, size, termCount}
 use Rattle.logic.specs.Rules.{Rewriting, intoParts, into, at}
+use Rattle.logic.proofs.WellFormed.{WellFormed, AllWellFormed, ofConnective, ofQuantifier, ofPart}
 use Rattle.formula.specs.memory.Kinds.{kindOf, skip}
 use Rattle.formula.specs.memory.Words.{connectiveTag, quantifierTag, partTotal, words}
 use Rattle.formula.specs.memory.Paths.{subformulaCount, placeBelow, placeOf, onward}
@@ -25,6 +26,13 @@ use Rattle.formula.proofs.memory.Kinds.{skip-none}
 use Rattle.formula.proofs.memory.Naming.{Naming, wordsIn, allWordsIn, Storable, AllStorable}
 use Rattle.formula.proofs.memory.Words.{length-words, skip-words, skip-first, kind-truth, kind-atom, kind-equal, kind-connective, kind-quantifier}
 use Rattle.formula.proofs.memory.Paths.{below-at, below-nowhere}
+
+-- a formula is well formed, inside a guard or not, whatever is bound around it
+pub data Well (P : Problem) (f : Formula) : Type 0 where
+  well : {inside : Bool} {bound : Name → Bool} {levels : ℕ} → WellFormed P inside bound levels f → Well P f
+
+data AllWell (P : Problem) (fs : Formulas) : Type 0 where
+  allWell : {inside : Bool} {bound : Name → Bool} {levels : ℕ} → AllWellFormed P inside bound levels fs → AllWell P fs
 
 -- A formula inside another, `rewrite k` being the outer one with k done to the inner one: what stands around it, as a formula and as words.
 pub record Inner (N : Naming) (f : Formula) (rewrite : Rewriting → Outcome ℕ Formula) : Type 0 where
@@ -38,6 +46,7 @@ pub record Inner (N : Naming) (f : Formula) (rewrite : Rewriting → Outcome ℕ
   pub inner-depth : depth inner ≤ depth f
   pub inner-storable : Storable N f → Storable N inner
   pub put-storable : (h : Formula) → Storable N f → Storable N h → Storable N (put h)
+  pub inner-well : (P : Problem) → Well P f → Well P inner
 
 -- The same for a list of parts.
 record InnerPart (N : Naming) (fs : Formulas) (i : ℕ) : Type 0 where
@@ -53,6 +62,7 @@ record InnerPart (N : Naming) (fs : Formulas) (i : ℕ) : Type 0 where
   pub inner-depth : depth inner ≤ depths fs
   pub inner-storable : AllStorable N fs → Storable N inner
   pub put-storable : (h : Formula) → AllStorable N fs → Storable N h → AllStorable N (put h)
+  pub inner-well : (P : Problem) → AllWell P fs → Well P inner
 
 mapped-mapped : {A B C : Type 0} (g : B → C) (f : A → B) (o : Outcome ℕ A) → mapped g (mapped f o) ≡ mapped (λ a. g (f a)) o
 mapped-mapped g f (done a) = refl
@@ -66,6 +76,22 @@ part-refused : (fs : Formulas) (i : ℕ) (k : Rewriting) → partTotal fs ≤ i 
 part-refused noParts i k h = refl
 part-refused (part f fs) zero k h = absurd (omega arith)
 part-refused (part f fs) (suc i) k h = ap (mapped (part f)) (part-refused fs i k (omega arith))
+
+-- What is well formed is so in its parts.
+first-well : {P : Problem} {f : Formula} {fs : Formulas} → AllWell P (part f fs) → Well P f
+first-well (allWell (ofPart v vs)) = well v
+
+others-well : {P : Problem} {f : Formula} {fs : Formulas} → AllWell P (part f fs) → AllWell P fs
+others-well (allWell (ofPart v vs)) = allWell vs
+
+parts-well : {P : Problem} {o : Connective} {fs : Formulas} → Well P (connective o fs) → AllWell P fs
+parts-well (well (ofConnective l vs)) = allWell vs
+
+pub guard-well : {P : Problem} {c : Side} {x : Name} {g f : Formula} → Well P (quantifier c x g f) → Well P g
+guard-well (well (ofQuantifier l v u)) = well v
+
+body-well : {P : Problem} {c : Side} {x : Name} {g f : Formula} → Well P (quantifier c x g f) → Well P f
+body-well (well (ofQuantifier l v u)) = well u
 
 module _ (N : Naming) where
   part-inner : (fs : Formulas) (i : ℕ) → i < partTotal fs → InnerPart N fs i
@@ -84,6 +110,7 @@ module _ (N : Naming) where
     inner-depth = omega arith;
     inner-storable = λ w. w .0;
     put-storable = λ g w v. (v, w .1);
+    inner-well = λ P w. first-well w;
   }
   part-inner (part f fs) (suc i) h =
       let r = part-inner fs i (omega arith) in
@@ -103,6 +130,7 @@ module _ (N : Naming) where
         inner-depth = omega (arith, r .inner-depth);
         inner-storable = λ w. r .inner-storable (w .1);
         put-storable = λ g w v. (w .0, r .put-storable g (w .1) v);
+        inner-well = λ P w. r .inner-well P (others-well w);
       }
 
   -- One level down.
@@ -120,6 +148,7 @@ module _ (N : Naming) where
     inner-depth = omega (arith, r .inner-depth);
     inner-storable = r .inner-storable;
     put-storable = r .put-storable;
+    inner-well = λ P w. r .inner-well P (parts-well w);
   }
 
   guard-inner : (c : Side) (x : Name) (g f : Formula) → Inner N (quantifier c x g f) (λ k. into 0 k (quantifier c x g f))
@@ -135,6 +164,7 @@ module _ (N : Naming) where
     inner-depth = omega arith;
     inner-storable = λ w. w .1;
     put-storable = λ h w v. (w .0, v, w .2);
+    inner-well = λ P w. guard-well w;
   }
 
   body-inner : (c : Side) (x : Name) (g f : Formula) → Inner N (quantifier c x g f) (λ k. into 1 k (quantifier c x g f))
@@ -150,6 +180,7 @@ module _ (N : Naming) where
     inner-depth = omega arith;
     inner-storable = λ w. w .2;
     put-storable = λ h w v. (w .0, w .1, v);
+    inner-well = λ P w. body-well w;
   }
 
 -- what a place tells of a path from `start`: the inner formula stands there, or there is none
@@ -216,6 +247,7 @@ module _ (N : Naming) (work : List ℕ) where
     inner-depth = omega arith;
     inner-storable = λ w. w;
     put-storable = λ h w v. v;
+    inner-well = λ P w. w;
   }
 
   inner-within : (f : Formula) (i : ℕ) (is : List ℕ) (a : Inner N f (λ k. into i k f)) → Inner N (a .inner) (λ k. at is k (a .inner))
@@ -231,6 +263,7 @@ module _ (N : Naming) (work : List ℕ) where
     inner-depth = omega (arith, a .inner-depth, b .inner-depth);
     inner-storable = λ w. b .inner-storable (a .inner-storable w);
     put-storable = λ h w v. a .put-storable (b .put h) w (b .put-storable h (a .inner-storable w) v);
+    inner-well = λ P w. b .inner-well P (a .inner-well P w);
   }
 
   -- Where the words of f stand: the words before the inner formula, its own at its place, and those after it.
