@@ -10,3 +10,8 @@ pub mod Accepted
 pub mod Demands
 pub mod NameLists
 pub mod Cleared
+pub mod Regions
+pub mod Targets
+pub mod Decisions
+pub mod Moves
+pub mod Splits

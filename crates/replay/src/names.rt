@@ -1,12 +1,16 @@
 // Names of formulas: the live ones in lent memory, new ones and the footer's in the derivation's text.
+use formula::store::copy;
+use formula::store::copy_back;
+use formula::store::put;
 use text::number::digits_at;
 ghost use mathlib.Core.Path.{_≡_};
-ghost use Prim.Native.Nat.{_+_, _≤_};
+ghost use Prim.Native.Nat.{_+_, _≤_, _<_};
 ghost use lib.ListN.{length, take, drop};
-ghost use lib.Seq.{sets};
 ghost use Rattle.text.specs.Bytes.{same};
 ghost use Rattle.text.specs.memory.Numbers.{numbersAt};
+ghost use Rattle.formula.specs.memory.Storing.{Stores, spliced, Rewritten};
 ghost use Rattle.replay.specs.memory.Names.{indexIn, ToldClimb};
+ghost use Rattle.replay.specs.memory.Steps.{Roomy, Fronted};
 
 // Names that climb, with the last of them; or one that is not greater.
 pub enum Climb {
@@ -76,4 +80,57 @@ pub fn are_listed(
         i += 1;
     }
     true
+}
+
+// Numbers of a text are stored one after the other, where there is room; the place behind them.
+fn put_numbers(list: &mut [u32], to: usize, text: &[u8], at: usize, many: usize) -> usize
+    requires { ⌜ (length (now text) ≤ 65536) × (at + many ≤ 200000) × (to ≤ 16384) ⌝ }
+    ensures { λ r. ⌜ Stores (now (list .entry)) to (numbersAt (now (text .entry)) at many) r (now (list .exit)) ⌝ }
+{
+    let mut place = at;
+    let mut next = to;
+    let mut left = many;
+    while left > 0 {
+        let digits = digits_at(text, place);
+        next = put(list, next, digits.value);
+        place = digits.next + 1;
+        left -= 1;
+    }
+    next
+}
+
+// A list with some numbers of a text for the one at `index`, made `spare` behind it.
+fn names_behind(
+    list: &mut [u32],
+    index: usize,
+    count: usize,
+    spare: usize,
+    text: &[u8],
+    at: usize,
+    many: usize,
+) -> usize
+    requires { ⌜ Roomy (now list) index count spare × (length (now text) ≤ 65536) × (at + many ≤ 200000) ⌝ }
+    ensures { λ r. ⌜ Rewritten (now (list .entry)) index (index + 1) count spare (numbersAt (now (text .entry)) at many) r (now (list .exit)) ⌝ }
+{
+    let here = copy(list, 0, index, spare);
+    let behind = put_numbers(list, here, text, at, many);
+    copy(list, index + 1, count, behind) - spare
+}
+
+// The same list, copied to the front.
+pub fn with_names(
+    list: &mut [u32],
+    index: usize,
+    count: usize,
+    spare: usize,
+    text: &[u8],
+    at: usize,
+    many: usize,
+) -> usize
+    requires { ⌜ Roomy (now list) index count spare × (length (now text) ≤ 65536) × (at + many ≤ 200000) × (count + many ≤ spare + 1) ⌝ }
+    ensures { λ r. ⌜ Fronted (spliced (now (list .entry)) index (index + 1) count (numbersAt (now (text .entry)) at many)) spare r (now (list .exit)) × (r ≤ spare) ⌝ }
+{
+    let total = names_behind(list, index, count, spare, text, at, many);
+    copy_back(list, spare, total);
+    total
 }

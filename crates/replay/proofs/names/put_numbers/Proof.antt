@@ -1,0 +1,65 @@
+-- `names::put_numbers` stores numbers of a text one after the other. The invariant: the rest of them is still to be stored.
+-- Assumes nothing.
+use Rattle.replay.proofs.names.put_numbers.Statement.{statement}
+use borrow.Author.Needs.{needs}
+use native.Mathlib.Omega.{arith}
+use Prim.Native.Nat.{_+_, _-_, _≤_}
+use mathlib.Core.Path.{_≡_, refl, sym, ap, _∙_}
+use Rattle.text.specs.memory.Numbers.{numbersAt}
+use Rattle.formula.proofs.memory.Storing.{Ahead, ahead-start, ahead-turn, ahead-end, ahead-length}
+use Rattle.replay.proofs.NameLists.{numbers-more, numbers-none, numbers-length}
+use Rattle.replay.proofs.names.put_numbers.Tie as tie
+
+abbrev Inv-loop : tie.InvT-loop
+Inv-loop list₀ to text at many place₀ next₀ left₀ list place next left = (left ≤ many) × (place + left ≤ 300000) × Ahead list₀ to (numbersAt text at many) list next (numbersAt text place left)
+
+abbrev μ-loop : tie.MeasureT-loop
+μ-loop list₀ to text at many place₀ next₀ left₀ list place next left = left
+
+loop-holds : tie.Need-loop-holds Inv-loop μ-loop
+loop-holds c = (omega arith, omega arith, ahead-start _ _ _)
+
+digits-at-requires : tie.Need-digits-at-requires Inv-loop μ-loop
+digits-at-requires c κs = search needs
+
+put-requires : tie.Need-put-requires Inv-loop μ-loop
+put-requires c κs =
+    let a = c .before .before .before .before .before .before .args in
+    omega (arith, c .before .before .before .loop .inv .2 .ends, numbers-length (a .text .now) (a .at) (a .many))
+
+add-place : tie.Need-add-place Inv-loop μ-loop
+add-place c = omega (arith, c .before .before .before .before .before .digits-at .ensures .within)
+
+sub-left : tie.Need-sub-left Inv-loop μ-loop
+sub-left c = search needs
+
+loop-less : tie.Need-loop-less Inv-loop μ-loop
+loop-less c = search needs
+
+loop-again : tie.Need-loop-again Inv-loop μ-loop
+loop-again c =
+    let a = c .before .before .before .before .before .before .before .before .before .before .args in
+    let d = c .before .before .before .before .before .digits-at .ensures in
+    (omega arith, omega (arith, d .within), ahead-turn (c .before .before .before .before .before .before .before .loop .inv .2) (numbers-more (a .text .now) (c .before .before .before .before .before .before .before .loop .place) (c .before .before .before .before .before .before .before .loop .left) (c .before .before .before .before .before .before .loop-test .taken) ∙ rw (← d .value, ← d .next)) (c .before .before .before .put .ensures))
+
+same-length : tie.Need-same-length Inv-loop μ-loop
+same-length c = ahead-length (c .before .loop .inv .2)
+
+returns : tie.Need-returns Inv-loop μ-loop
+returns c = ahead-end (c .before .loop .inv .2) (numbers-none (c .before .before .before .before .args .text .now) (c .before .loop .place) (c .before .loop .left) (omega arith))
+
+pub put-numbers-spec : {M : Type 1} → statement M
+put-numbers-spec =
+    tie.close
+    (tie.spec
+    Inv-loop
+    μ-loop
+    loop-holds
+    digits-at-requires
+    put-requires
+    add-place
+    sub-left
+    loop-less
+    loop-again
+    same-length
+    returns)

@@ -1,0 +1,126 @@
+-- The live formulas as memory holds them, and the rule lines on them: 11 to 15, as the code decides them.
+use Prim.Native.Nat.{ℕ, zero, suc, _+_}
+use mathlib.Core.List.{List, [], _∷_, _++_, map}
+use mathlib.Core.Bool.{Bool, true, false, cond, not, _&&_}
+use lib.Dec.{eqb, leb}
+use lib.ListN.{length, getD, take, drop}
+use lib.Seq.{slice}
+use Rattle.text.specs.Outcome.{Outcome, done, refused, mapped, provided, _>>=_, _>>_}
+use Rattle.text.specs.Derivation.{Position}
+use Rattle.text.specs.declared.table.Table.{Table}
+use Rattle.text.specs.declared.rule_line.Rule.{Rule}
+use Rattle.formula.specs.memory.Kinds.{kindOf, skip}
+use Rattle.formula.specs.memory.Paths.{placeOf}
+use Rattle.formula.specs.memory.Storing.{spliced}
+use Rattle.formula.specs.memory.Rewriting.{endWithin, rewrittenWords}
+use Rattle.formula.specs.memory.Deciding.{ruleFit}
+use Rattle.formula.specs.memory.Admitted.{guardClosed, admittedFlags}
+use Rattle.formula.specs.declared.word.Sign.{Sign}
+use Rattle.formula.specs.declared.word.Sign.the-variants.{Negation, Implies, ImpliedBy, Equivalent, Junction}
+use Rattle.formula.specs.declared.word.Kind.{Kind}
+use Rattle.formula.specs.declared.word.Kind.the-variants as kind
+use Rattle.formula.specs.declared.walk.Place.{Place}
+use Rattle.formula.specs.declared.walk.Place.the-variants.{At, Nowhere}
+use Rattle.formula.specs.declared.decide.Fit.{Fit}
+use Rattle.formula.specs.declared.decide.Fit.the-variants as fit
+use Rattle.replay.specs.Theory.{climbing, highest}
+use Rattle.replay.specs.memory.Names.{indexIn}
+
+-- the formulas' words one after the other, their names, the greatest name used, and whether UNSAT was
+pub record Held : Type 0 where
+  pub words : List ℕ
+  pub names : List ℕ
+  pub top : ℕ
+  pub ended : Bool
+
+abbrev pub held : List ℕ → List ℕ → ℕ → Bool → Held
+held words names top ended = record { words = words; names = names; top = top; ended = ended }
+
+abbrev pub reached : Place → Outcome ℕ ℕ
+reached (At j) = done j
+reached Nowhere = refused 12
+
+-- the index of a name, 11; and the place of a path in its formula, 12
+unfoldable pub targetIn : Held → Position → Outcome ℕ (ℕ × ℕ)
+targetIn m p =
+    let index = indexIn (p .name) (m .names) in
+    provided (not (eqb index (length (m .names)))) 11
+    >> mapped (λ at. (index, at)) (reached (placeOf (m .words) (p .path) (skip (m .words) index)))
+
+abbrev pub isEmpty : List ℕ → Bool
+isEmpty [] = true
+isEmpty (i ∷ is) = false
+
+-- the same for a rule that takes no path, 13
+unfoldable pub wholeIn : Held → Position → Outcome ℕ (ℕ × ℕ)
+wholeIn m p = targetIn m p >>= λ t. provided (isEmpty (p .path)) 13 >> (provided (not (m .ended)) 13 >> done t)
+
+-- the number that a decision is refused with; 0 where the rule fits
+abbrev pub misfit : Fit → List ℕ → ℕ
+misfit (fit.Value b) s = 0
+misfit (fit.Junction every) s = 0
+misfit fit.Quantifier s = cond (guardClosed 32 s) 0 14
+misfit fit.Misfit s = 13
+
+abbrev pub unlessRefused : {A : Type 0} → ℕ → Outcome ℕ A → Outcome ℕ A
+unlessRefused zero o = o
+unlessRefused (suc n) o = refused (suc n)
+
+-- a list with other numbers for those from `at` to `end`
+abbrev pub exchanged : List ℕ → ℕ → ℕ → List ℕ → List ℕ
+exchanged s at end new = spliced s at end (length s) new
+
+-- with what was decided done at a place: 15
+unfoldable pub sizedIn : Held → ℕ → Fit → List Bool → Outcome ℕ Held
+sizedIn m at decided flags =
+    let words = exchanged (m .words) at (endWithin (m .words) at (length (m .words))) (rewrittenWords decided (m .words) at (length (m .words)) flags) in
+    provided (leb (length words) 4096) 15 >> done (held words (m .names) (m .top) false)
+
+module _ (table : Table) (rows : List ℕ) where
+  -- a rule at a place: 13, 14, 15
+  unfoldable pub madeIn : Rule → Held → ℕ → Outcome ℕ Held
+  madeIn rule m at =
+      let s = drop at (m .words) in
+      let decided = ruleFit table rows rule s in
+      unlessRefused (misfit decided s) (sizedIn m at decided (admittedFlags table rows 32 s))
+
+  -- a rule at a path: 11, 12, 13, 14, 15
+  unfoldable pub rewrittenIn : Held → Rule → Position → Outcome ℕ Held
+  rewrittenIn m rule p = targetIn m p >>= λ t. provided (not (m .ended)) 13 >> madeIn rule m (t .1)
+
+-- without the first word of the formula at a place, and with other names for its own
+unfoldable pub openedIn : Held → ℕ × ℕ → List ℕ → ℕ → Outcome ℕ Held
+openedIn m t names top =
+    done (held (exchanged (m .words) (t .1) (t .1 + 1) []) (exchanged (m .names) (t .0) (t .0 + 1) names) top false)
+
+-- TRIVIAL
+unfoldable pub removedIn : Held → Position → Outcome ℕ Held
+removedIn m p = wholeIn m p >>= λ t. provided (eqb (getD (m .words) (t .1) 0) 1) 13 >> openedIn m t [] (m .top)
+
+-- a word of an `&` of so many parts, one or more
+abbrev pub isConjunction : Sign → ℕ → ℕ → Bool
+isConjunction Negation n many = false
+isConjunction Implies n many = false
+isConjunction ImpliedBy n many = false
+isConjunction Equivalent n many = false
+isConjunction (Junction every) n many = every && (not (eqb many 0) && eqb n many)
+
+abbrev pub isSplit : Kind → ℕ → Bool
+isSplit (kind.Truth b) many = false
+isSplit (kind.Atom p n) many = false
+isSplit kind.Equality many = false
+isSplit (kind.Connective sign n) many = isConjunction sign n many
+isSplit (kind.Quantifier every x) many = false
+isSplit kind.Term many = false
+
+-- SPLITC
+unfoldable pub splitIn : Held → Position → List ℕ → Outcome ℕ Held
+splitIn m p names =
+    provided (climbing (m .top) names) 11
+    >> (wholeIn m p >>= λ t.
+    provided (isSplit (kindOf (getD (m .words) (t .1) 0)) (length names)) 13
+    >> (provided (leb (length (m .names) + length names) 1025) 15 >> openedIn m t names (highest (m .top) names)))
+
+-- UNSAT
+unfoldable pub refutedIn : Held → Position → Outcome ℕ Held
+refutedIn m p = wholeIn m p >>= λ t. provided (eqb (getD (m .words) (t .1) 0) 0) 13 >> done (held (0 ∷ []) (p .name ∷ []) (m .top) true)
