@@ -15,3 +15,4 @@ pub mod Targets
 pub mod Decisions
 pub mod Moves
 pub mod Splits
+pub mod HeldWords
