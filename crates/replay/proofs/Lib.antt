@@ -16,3 +16,4 @@ pub mod Decisions
 pub mod Moves
 pub mod Splits
 pub mod HeldWords
+pub mod HeldTargets
