@@ -17,3 +17,4 @@ pub mod Moves
 pub mod Splits
 pub mod HeldWords
 pub mod HeldTargets
+pub mod HeldRules
