@@ -18,3 +18,4 @@ pub mod Splits
 pub mod HeldWords
 pub mod HeldTargets
 pub mod HeldRules
+pub mod HeldWhole
