@@ -19,3 +19,4 @@ pub mod HeldWords
 pub mod HeldTargets
 pub mod HeldRules
 pub mod HeldWhole
+pub mod Held
