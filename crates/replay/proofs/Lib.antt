@@ -20,3 +20,4 @@ pub mod HeldTargets
 pub mod HeldRules
 pub mod HeldWhole
 pub mod Held
+pub mod HeldEnd
