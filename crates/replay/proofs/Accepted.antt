@@ -44,7 +44,7 @@ module _ (P : Problem) (T : List Formula) (derivation : Bytes) where
   abbrev pub GroundedBy : Ground → Type 0
   GroundedBy G = (g : Grounds P T derivation) × (G ≡ groundBy g)
 
-  ground-says : (D : Replayed) → Derived P T derivation D → Allowed GroundedBy (groundOf P D)
+  ground-says : (D : Replayed State) → Derived P T derivation D → Allowed GroundedBy (groundOf P D)
   unfolding groundOf
   ground-says D d =
       allowed-bind _ GroundedBy _
@@ -72,7 +72,7 @@ module _ (P : Problem) (T : List Formula) (derivation : Bytes) where
   pub derivation-grounds : (g : Grounds P T derivation) → (derivationOf P T derivation >>= groundOf P) ≡ done (groundBy g)
   unfolding groundOf
   derivation-grounds g =
-      let D : Replayed = record { last = g .last; rules = length (g .written .lines); final = g .written .final } in
+      let D : Replayed State = record { last = g .last; rules = length (g .written .lines); final = g .written .final } in
       let e = derivation-exactly P T derivation D .1 (record { derivation = g .written; fits = g .fits; text = g .text; steps = g .steps; counted = refl; listed = refl }) in
       rw (e, g .listed, same-refl (namesOf (liveTheory (g .last))), g .ground)
 

@@ -20,8 +20,8 @@ use Rattle.text.proofs.Refusals.{From, readText-refuses, problemOf-refuses, rea
 use Rattle.logic.specs.Formula.{Formula, Formulas, noParts, part, Side, all, any}
 use Rattle.logic.proofs.Rules.{onJunction-cases}
 use Rattle.logic.proofs.Refusals.{readFormula-refuses, apply-refuses, at-refuses}
-use Rattle.replay.specs.Theory.{theoryLine, theoryOf, Theory, State, live, ended, inPlace, unlessEnded, wholeOnly, namedParts, splitParts, split, stepped}
-use Rattle.replay.specs.Replay.{Place, top, heading, among, bottom, Replayed, lineDone, derivationLine, wholeDerivation, derivationOf, Ground, footerLine, groundOf}
+use Rattle.replay.specs.Theory.{theoryLine, theoryOf, Theory, State, live, ended, initial, inPlace, unlessEnded, wholeOnly, namedParts, splitParts, split, stepped}
+use Rattle.replay.specs.Replay.{Place, top, heading, among, bottom, Replayed, lineDone, derivationLine, wholeDerivation, derivationFrom, derivationOf, Ground, footerLine, groundOf}
 use Rattle.replay.specs.Answer.{differenceLine, grounded, replayed, checked, answerOf}
 
 -- The theory: 5 to 9.
@@ -78,28 +78,28 @@ module _ {N : ℕ → Type 0} (misnamed : N 11) (nowhere : N 12) (unfitting : N 
 
 module _ {N : ℕ → Type 0} (malformed : N 10) (misnamed : N 11) (nowhere : N 12) (unfitting : N 13) (free : N 14) (large : N 15)
     (P : Problem) (T : List Formula) where
-  lineDone-refuses : (s : State) (rules : ℕ) (l : Line) → Refuses N (lineDone P s rules l)
+  lineDone-refuses : (s : State) (rules : ℕ) (l : Line) → Refuses N (lineDone (stepped P) s rules l)
   lineDone-refuses s rules (step l) = refuses-mapped _ (stepped-refuses misnamed nowhere unfitting free large P s l)
   lineDone-refuses s rules (footer names) = never _
 
-  pub derivationLine-refuses : (place : Place) → OnlyRefuses N (derivationLine P T place)
+  pub derivationLine-refuses : (place : Place State) → OnlyRefuses N (derivationLine (stepped P) (initial T) place)
   unfolding derivationLine
   derivationLine-refuses top = search (readers, readVersion-refuses)
   derivationLine-refuses heading = search (readers, readGrounder-refuses)
   derivationLine-refuses (among s rules) = search (readers, readLine-refuses, lineDone-refuses)
   derivationLine-refuses (bottom s rules names) = search readers
 
-  wholeDerivation-refuses : (place : Place) → Refuses N (wholeDerivation place)
+  wholeDerivation-refuses : (place : Place State) → Refuses N (wholeDerivation place)
   wholeDerivation-refuses top = only malformed
   wholeDerivation-refuses heading = only malformed
   wholeDerivation-refuses (among s rules) = only malformed
   wholeDerivation-refuses (bottom s rules names) = never _
 
   pub derivationOf-refuses : (s : Bytes) → Refuses (From 3 1 N) (derivationOf P T s)
-  unfolding derivationOf
+  unfolding derivationFrom
   derivationOf-refuses s = readText-refuses 3 derivationLine-refuses wholeDerivation-refuses top s
 
-module _ {N : ℕ → Type 0} (mislisted : N 16) (unground : N 17) (P : Problem) (D : Replayed) where
+module _ {N : ℕ → Type 0} (mislisted : N 16) (unground : N 17) (P : Problem) (D : Replayed State) where
   pub groundOf-refuses : Refuses (From 3 3 N) (groundOf P D)
   unfolding groundOf
   groundOf-refuses = search (outcomes, at-footer)
