@@ -1,16 +1,15 @@
 -- The lines that declare, at a place of a text: what `readDomain` and `readPredicate` make of what stands there.
 -- Assumes nothing.
-use Prim.Native.Nat.{ℕ, _+_, _-_, _≤_, _<_}
+use Prim.Native.Nat.{ℕ, _+_, _-_, _≤_}
 use native.Mathlib.Omega.{arith}
 use mathlib.Core.Path.{_≡_, refl, sym, ap, _∙_}
-use mathlib.Core.List.{List, [], _∷_}
+use mathlib.Core.List.{[], _∷_}
 use mathlib.Core.Bool.{Bool, true, false, and-true}
 use lib.ListN.{length, take, drop}
 use lib.Seq.{take-append-seam}
 use Rattle.text.specs.Bytes.{Bytes, bytes, next, begins, span, isCapital, isSmallOrDigit, isLetterOrDigit}
-use Rattle.text.specs.Outcome.{Outcome, done, refused, mapped}
-use Rattle.text.specs.Outcome as outcome
-use Rattle.text.specs.Reading.{Reader, give, _>>=_, _>>_, word, readNumber}
+use Rattle.text.specs.Outcome.{mapped}
+use Rattle.text.specs.Reading.{word, readNumber}
 use Rattle.text.specs.Problem.{Predicate, isName, readName, readDomain, readPredicate}
 use Rattle.text.specs.memory.Found.{Found, Refused, WordFound}
 use Rattle.text.specs.memory.Numbers.{NumberFound, SmallFound, LargeFound, ToldNumber}
@@ -20,7 +19,8 @@ use Rattle.text.specs.declared.number.Number.the-variants.{Value, Beyond
 use Rattle.text.specs.declared.declaration.Declaration.the-variants as declaration
 use Rattle.text.proofs.Laws.{or-left}
 use Rattle.text.proofs.Reading.{span-split}
-use Rattle.text.proofs.Found.{found-give, found-then, refused-first, refused-then, found-word, refused-word, found-token, refused-token, found-later, refused-later}
+use Rattle.text.proofs.Found.{found-give, found-taken, taken-found, found-then, refused-first, refused-then, found-word, refused-word, found-token, refused-token}
+use Rattle.text.proofs.Found.{made-mapped, found-made, refused-made}
 use Rattle.text.proofs.FoundBytes.{byte-found, byte-missing}
 
 -- A number that ends its line.
@@ -47,7 +47,7 @@ module _ (text : Bytes) (at : ℕ) where
   module _ (end : ℕ) where
     module _ (n : ℕ) (found : SmallFound text at n end) where
       pub last-small : next (drop end text) ≡ 10 → ToldLast readLastNumber text at (Value (end + 1) n)
-      last-small e = last-found (found .found) e
+      last-small e = found-taken (last-found (found .found) e) (omega (arith, found .found .after))
 
       pub last-small-unended : (next (drop end text) ≡ 10 → ⊥) → ToldLast readLastNumber text at Malformed
       last-small-unended h = last-unended (found .found) h
@@ -66,7 +66,7 @@ module _ (text : Bytes) (at : ℕ) where
 
   pub domain-behind : WordFound (bytes "domain=") text at (at + 7) → (r : Number) → ToldLast readLastNumber text (at + 7) r → ToldLast readDomain text at r
   unfolding readDomain readLastNumber
-  domain-behind w (Value next n) f = found-then _ (found-word text at 3 (bytes "domain=") w) f
+  domain-behind w (Value next n) f = found-taken (found-then _ (found-word text at 3 (bytes "domain=") w) (taken-found f)) (omega (arith, f .after))
   domain-behind w (Beyond next) f =
       record { number = f .number; found = found-then _ (found-word text at 3 (bytes "domain=") w) (f .found); large = f .large }
   domain-behind w Malformed f = refused-then _ (found-word text at 3 (bytes "domain=") w) f
@@ -86,26 +86,13 @@ isName-span (b ∷ s) = pick (isLetterOrDigit b) refl
 span-take : (class : ℕ → Bool) (s : Bytes) → take (length (span class s)) s ≡ span class s
 span-take class s = ap (take (length (span class s))) (span-split class s .1) ∙ take-append-seam (span class s) (drop (length (span class s)) s)
 
--- a thing that is made of another one, both with the same end
-closed-mapped : {A B : Type 0} (r : Reader A) (q : Reader (Unit {0})) (f : A → B) (s : Bytes)
-    → (r >>= λ a. q >> give (f a)) s ≡ mapped (λ p. (f (p .0), p .1)) ((r >>= λ a. q >> give a) s)
-closed-mapped {A} r q f s = first (r s)
-  where
-    second : (a : A) (o : Outcome ℕ (Unit {0} × Bytes)) → outcome._>>=_ o (λ p. give (f a) (p .1)) ≡ mapped (λ p. (f (p .0), p .1)) (outcome._>>=_ o (λ p. give a (p .1)))
-    second a (done p) = refl
-    second a (refused e) = refl
-
-    first : (o : Outcome ℕ (A × Bytes))
-        → outcome._>>=_ o (λ p. (q >> give (f (p .0))) (p .1)) ≡ mapped (λ p. (f (p .0), p .1)) (outcome._>>=_ o (λ p. (q >> give (p .0)) (p .1)))
-    first (done p) = second (p .0) (q (p .1))
-    first (refused e) = refl
-
 module _ (text : Bytes) (at : ℕ) where
   pub predicate-unnamed : isCapital (next (drop at text)) ≡ false → ToldDeclaration text at declaration.Malformed
   unfolding readPredicate readName
   predicate-unnamed e = refused-first _ (refused-token text at 3 isLetterOrDigit isName (isName-span (drop at text) ∙ e))
 
-  module _ (named : isCapital (next (drop at text)) ≡ true) (end : ℕ) (ends : end ≡ at + length (span isLetterOrDigit (drop at text))) (within : end ≤ length text) where
+  module _ (named : isCapital (next (drop at text)) ≡ true)
+      (end : ℕ) (ends : end ≡ at + length (span isLetterOrDigit (drop at text))) (within : end ≤ length text) where
     name-found : Found (readName 3) text at (take (end - at) (drop at text)) end
     unfolding readName
     name-found =
@@ -125,18 +112,19 @@ module _ (text : Bytes) (at : ℕ) where
       unfolding readPredicate readLastNumber predicateOf
       behind =
           rw (name-found .is, found-word text end 3 (bytes "/") (byte-found text end 47 (omega arith) parted) .is)
-          (closed-mapped (readNumber 3) (word 3 (bytes "\n")) predicateOf (drop (end + 1) text))
+          (made-mapped (readNumber 3) (λ n. word 3 (bytes "\n")) predicateOf (drop (end + 1) text))
 
       found : (arity next : ℕ) → Found readLastNumber text (end + 1) arity next → Found readPredicate text at (predicateOf arity) next
-      found arity next f = record { is = rw (behind, f .is); after = omega (arith, f .after); within = f .within }
+      found arity next f = found-made text at predicateOf behind (omega arith) f
 
-      pub predicate-small : (next arity : ℕ) → ToldLast readLastNumber text (end + 1) (Value next arity) → ToldDeclaration text at (declaration.Predicate (end - at) arity next)
+      pub predicate-small : (next arity : ℕ) → ToldLast readLastNumber text (end + 1) (Value next arity)
+          → ToldDeclaration text at (declaration.Predicate (end - at) arity next)
       unfolding predicateOf
-      predicate-small next arity f = record { found = found arity next f; short = omega (arith, f .after) }
+      predicate-small next arity f = record { found = found arity next (taken-found f); short = omega (arith, f .after) }
 
       pub predicate-large : (next : ℕ) → ToldLast readLastNumber text (end + 1) (Beyond next) → ToldDeclaration text at declaration.Beyond
       unfolding predicateOf
       predicate-large next f = record { predicate = predicateOf (f .number); next = next; found = found (f .number) next (f .found); large = f .large }
 
       pub predicate-misspelled : ToldLast readLastNumber text (end + 1) Malformed → ToldDeclaration text at declaration.Malformed
-      predicate-misspelled f = record { is = rw (behind, f .is) }
+      predicate-misspelled f = refused-made text at predicateOf behind f

@@ -8,7 +8,9 @@ use mathlib.Core.Bool.{Bool, true, false}
 use lib.ListN.{length, drop, length-append, length-drop}
 use lib.Seq.{drop-drop}
 use Rattle.text.specs.Bytes.{Bytes, begins, span}
-use Rattle.text.specs.Reading.{Reader, give, _>>=_, require, word, token, _⇒_, oneOf}
+use Rattle.text.specs.Outcome.{Outcome, done, refused, mapped}
+use Rattle.text.specs.Outcome as outcome
+use Rattle.text.specs.Reading.{Reader, give, _>>=_, _>>_, require, word, token, _⇒_, oneOf}
 use Rattle.text.specs.memory.Found.{Found, Taken, Refused, WordFound}
 use Rattle.text.proofs.Reading.{begins-split}
 
@@ -18,6 +20,9 @@ module _ {A : Type 0} {text : Bytes} {at : ℕ} where
 
   pub found-taken : {reader : Reader A} {a : A} {next : ℕ} → Found reader text at a next → at < next → Taken reader text at a next
   found-taken f h = record { is = f .is; after = h; within = f .within }
+
+  pub taken-found : {reader : Reader A} {a : A} {next : ℕ} → Taken reader text at a next → Found reader text at a next
+  taken-found f = record { is = f .is; after = omega (arith, f .after); within = f .within }
 
   module _ {B : Type 0} {r : Reader A} (k : A → Reader B) where
     pub found-then : {a : A} {mid next : ℕ} {b : B} → Found r text at a mid → Found (k a) text mid b next → Found (r >>= k) text at b next
@@ -89,3 +94,28 @@ module _ (text : Bytes) (at : ℕ) where
     pub oneOf-only : kinds ≡ [] → begins w (drop at text) ≡ false → oneOf (w ⇒ r ∷ kinds) last (drop at text) ≡ last (drop at text)
     unfolding oneOf
     oneOf-only none e = rw (e, none)
+
+-- A thing that is made of another, which passed the same test.
+
+pub made-mapped : {A B : Type 0} (r : Reader A) (test : A → Reader (Unit {0})) (f : A → B) (s : Bytes)
+    → (r >>= λ a. test a >> give (f a)) s ≡ mapped (λ p. (f (p .0), p .1)) ((r >>= λ a. test a >> give a) s)
+made-mapped {A} r test f s = first (r s)
+  where
+    second : (a : A) (o : Outcome ℕ (Unit {0} × Bytes)) → outcome._>>=_ o (λ p. give (f a) (p .1))
+        ≡ mapped (λ p. (f (p .0), p .1)) (outcome._>>=_ o (λ p. give a (p .1)))
+    second a (done p) = refl
+    second a (refused e) = refl
+
+    first : (o : Outcome ℕ (A × Bytes))
+        → outcome._>>=_ o (λ p. (test (p .0) >> give (f (p .0))) (p .1))
+        ≡ mapped (λ p. (f (p .0), p .1)) (outcome._>>=_ o (λ p. (test (p .0) >> give (p .0)) (p .1)))
+    first (done p) = second (p .0) (test (p .0) (p .1))
+    first (refused e) = refl
+
+module _ (text : Bytes) (at : ℕ) {A B : Type 0} (f : A → B) {mid : ℕ} {r : Reader B} {q : Reader A}
+    (same : r (drop at text) ≡ mapped (λ p. (f (p .0), p .1)) (q (drop mid text))) where
+  pub found-made : at ≤ mid → {a : A} {next : ℕ} → Found q text mid a next → Found r text at (f a) next
+  found-made h g = record { is = same ∙ rw (g .is); after = omega (arith, g .after); within = g .within }
+
+  pub refused-made : {number : ℕ} → Refused number q text mid → Refused number r text at
+  refused-made g = record { is = same ∙ rw (g .is) }

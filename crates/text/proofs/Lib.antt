@@ -22,3 +22,4 @@ pub mod Listing
 pub mod RelationPlaces
 pub mod RowPlaces
 pub mod RowsKept
+pub mod TableGrowth

@@ -1,7 +1,8 @@
 -- A text read line by line: what every line keeps holds at the end, and what is read is a run of lines; by induction on the bound.
 -- And the place and the bytes of a refused line, by induction on the text.
 -- Assumes nothing.
-use Prim.Native.Nat.{ℕ, suc, zero, _+_, _≤_, _<_, max}
+use Prim.Native.Nat.{ℕ, suc, zero, _+_, _-_, _≤_, _<_, max}
+use native.Mathlib.Numerals.{add-one, sub-one}
 use native.Mathlib.Omega.{arith}
 use mathlib.Core.Path.{_≡_, refl, ap, _∙_}
 use mathlib.Core.Logic.{_↔_}
@@ -11,7 +12,7 @@ use lib.ListN.{length, take, drop, length-append}
 use lib.Seq.{take-append-seam, drop-append-add, drop-length}
 use borrow.Author.Tests.{not-true}
 use Rattle.text.specs.Bytes.{Bytes, every}
-use Rattle.text.specs.Outcome.{Outcome, done, refused}
+use Rattle.text.specs.Outcome.{Outcome, done, refused, _>>=_}
 use Rattle.text.specs.Reading.{Reader}
 use Rattle.text.specs.Lines.{onLine, readLines, readText, isLF, lineSize, linesSize, lineStart, refusedLine}
 use Rattle.text.proofs.Laws.{and-left, and-right}
@@ -22,6 +23,20 @@ use Rattle.text.proofs.Outcome.{Allowed, allowed-bind, allowed-weaken, 
 allowed-onLine : {A : Type 0} (Q : A → Type 0) (file line : ℕ) (o : Outcome ℕ A) → Allowed Q o → Allowed Q (onLine file line o)
 allowed-onLine Q file line (done a) q = q
 allowed-onLine Q file line (refused number) q = tt
+
+-- one line of a text, and its end
+module _ {S A : Type 0} (file : ℕ) (line : S → Reader S) (finish : S → Outcome ℕ A) where
+  pub readLines-step : (most k : ℕ) (state : S) (s : Bytes) → 0 < most → 0 < length s
+      → readLines file line finish most k state s ≡ (onLine file k (line state s) >>= λ p. readLines file line finish (most - 1) (k + 1) (p .0) (p .1))
+  unfolding readLines
+  readLines-step zero k state s h l = absurd (omega arith)
+  readLines-step (suc most) k state [] h l = absurd (omega arith)
+  readLines-step (suc most) k state (b ∷ s) h l = rw (sub-one (suc most), add-one k)
+
+  pub readLines-end : (most k : ℕ) (state : S) → readLines file line finish most k state [] ≡ onLine file k (finish state)
+  unfolding readLines
+  readLines-end zero k state = refl
+  readLines-end (suc most) k state = refl
 
 -- what every line keeps of the bound, the state and the text holds at the end
 module _ {S A : Type 0} (file : ℕ) (line : S → Reader S) (finish : S → Outcome ℕ A) (I : ℕ → S → Bytes → Type 0) (W : A → Type 0)

@@ -1,4 +1,4 @@
--- What an outcome has to meet, where a refusal is free: so every refusing case of a proof is `tt`.
+-- What an outcome has to meet, where a refusal is free: so every refusing case of a proof is `tt`; and outcomes one after another.
 -- Assumes nothing.
 use mathlib.Core.Path.{_≡_, refl, subst}
 use mathlib.Core.Bool.{Bool, true, false, cond}
@@ -43,3 +43,8 @@ allowed-any (refused e) = tt
 pub allowed-itself : {E A : Type 0} (o : Outcome E A) → Allowed (λ a. o ≡ done a) o
 allowed-itself (done a) = refl
 allowed-itself (refused e) = tt
+
+-- one outcome after another, and a third
+pub bind-bind : {E A B C : Type 0} (o : Outcome E A) (k : A → Outcome E B) (l : B → Outcome E C) → (o >>= λ a. k a >>= l) ≡ ((o >>= k) >>= l)
+bind-bind (done a) k l = refl
+bind-bind (refused e) k l = refl

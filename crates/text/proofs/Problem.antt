@@ -101,7 +101,7 @@ module _ (q : Predicate) (before after : List Predicate) where
       at p true e = rw (occurrences-insert p, e, same-true p (q .name) e, J .fresh) (omega arith)
       at p false e = rw (occurrences-insert p, e) (omega (arith, D .once p))
 
-tupleTotal-append : (is js : List Input) → tupleTotal (is ++ js) ≡ tupleTotal is + tupleTotal js
+pub tupleTotal-append : (is js : List Input) → tupleTotal (is ++ js) ≡ tupleTotal is + tupleTotal js
 tupleTotal-append [] js = omega arith
 tupleTotal-append (i ∷ is) js = rw (tupleTotal-append is js) (omega arith)
 

@@ -2,30 +2,29 @@
 -- Assumes nothing.
 use Prim.Native.Nat.{ℕ, suc, zero, _+_, _≤_, _<_}
 use native.Mathlib.Omega.{arith}
-use mathlib.Core.Path.{_≡_, refl, sym, ap, _∙_}
-use mathlib.Core.List.{List, [], _∷_, _++_, append-nil, map}
-use mathlib.Core.Bool.{Bool, true, false, cond, _&&_}
-use lib.Dec.{eqb, leb, eqb·suc-zero}
+use mathlib.Core.Path.{_≡_, refl, _∙_}
+use mathlib.Core.List.{List, [], _∷_, append-nil}
+use mathlib.Core.Bool.{Bool, true, false}
 use lib.ListN.{length, drop, set}
-use borrow.Author.Tests.{eq-eqb, ne-eqb, le-leb}
+use borrow.Author.Tests.{ne-eqb, le-leb}
 use Rattle.text.specs.Sizes.{tupleCount}
 use Rattle.text.specs.Bytes as bytes
 use Rattle.text.specs.Bytes.{Bytes, bytes, begins}
 use Rattle.text.specs.Outcome.{Outcome, done, refused, mapped, provided}
-use Rattle.text.specs.Reading.{Reader, give, judge, _>>=_, _>>_, word, _⇒_, oneOf}
-use Rattle.text.specs.Lines.{isLF}
-use Rattle.text.specs.Problem.{Row, Problem, rowsFit, ascending, tupleTotal, Relation, truthValue, tuples, readTuples, readRelation, rowsFor}
+use Rattle.text.specs.Reading.{judge, oneOf}
+use Rattle.text.specs.Problem.{Row, Problem, Relation, truthValue, tuples, readTuples, readRelation, rowsFor}
 use Rattle.text.specs.memory.Found.{Found, Refused, WordFound}
 use Rattle.text.specs.memory.Table.{packed}
-use Rattle.text.specs.memory.Rows.{ToldRows, rowsAllowed, readSome, ToldTuples, readClosed, ToldTruth, readListed, ListedFound, ToldListed, ToldRelation}
-use Rattle.text.specs.memory.Rows.{readRows, tupleSize, RowsStored, Suits, ToldRowsRead, RowsGiven}
+use Rattle.text.specs.memory.Rows.{rowsAllowed, readSome, ToldTuples, readClosed, ToldTruth, readListed, ToldListed, ToldRelation}
+use Rattle.text.specs.memory.Rows.{tupleSize, RowsStored, Suits, RowsGiven}
 use Rattle.text.specs.declared.rows.RowsKept.{RowsKept}
 use Rattle.text.specs.declared.rows.RowsKept.the-variants as rows
 use Rattle.text.specs.declared.rows.TuplesRead.the-variants as list
 use Rattle.text.specs.declared.rows.RelationRead.{RelationRead}
 use Rattle.text.specs.declared.rows.RelationRead.the-variants as relation
 use Rattle.text.specs.declared.rows.RowsRead.the-variants as answer
-use Rattle.text.proofs.Found.{found-give, found-then, refused-first, refused-then, found-word, refused-word, found-later, refused-later, oneOf-this, oneOf-other}
+use Rattle.text.proofs.Found.{found-give, found-taken, taken-found, found-then, refused-first, refused-then, found-word, refused-word}
+use Rattle.text.proofs.Found.{found-later, refused-later, oneOf-this, oneOf-other}
 use Rattle.text.proofs.FoundBytes.{byte-found, byte-missing}
 
 -- A line's end.
@@ -56,7 +55,7 @@ module _ (n total arity to : ℕ) (old : List ℕ) (text : Bytes) (at : ℕ) whe
       let none : Found readTuples text at [] at = record { is = rw e; after = omega arith; within = h } in
       record {
         list = [];
-        found = found-then _ (found-then _ none (found-give (tuples []) h)) (closed-found text at (tuples []) e);
+        found = found-taken (found-then _ (found-then _ none (found-give (tuples []) h)) (closed-found text at (tuples []) e)) (omega arith);
         told = record { stored = refl; counted = refl; fit = refl; ordered = refl; order = refl; room = omega arith };
       }
 
@@ -78,7 +77,8 @@ module _ (n total arity to : ℕ) (old : List ℕ) (text : Bytes) (at : ℕ) whe
       listed-closed e =
           record {
             list = f .list;
-            found = found-then _ (found-then _ read (found-give (tuples (f .list)) (f .found .within))) (closed-found text next (tuples (f .list)) e);
+            found = found-taken (found-then _ (found-then _ read (found-give (tuples (f .list)) (f .found .within))) (closed-found text next (tuples (f .list)) e))
+                (omega (arith, f .found .after));
             told = f .told;
           }
 
@@ -94,17 +94,23 @@ module _ (n total arity to : ℕ) (old : List ℕ) (text : Bytes) (at : ℕ) whe
   relation-unnamed e new = refused-first _ (refused-word text at 3 (bytes "rows=") e)
 
   module _ (named : WordFound (bytes "rows=") text at (at + 5)) where
-    truth-behind : (value : Bool) (end : ℕ) → at ≤ end → readRelation (drop at text) ≡ readClosed (truthValue value) (drop end text)
+    truth-behind : (value : Bool) (end : ℕ) → at < end → readRelation (drop at text) ≡ readClosed (truthValue value) (drop end text)
         → (r : RelationRead) → ToldTruth value text end r → ToldRelation n total arity to old old text at r
     truth-behind value end h same (relation.Truth next told) f =
-        record { found = rw (f .0) (found-later text at (readClosed (truthValue value)) same h (f .1)); kept = refl }
+        let k : at ≤ end = omega arith in
+        record {
+          found = rw (f .0) (found-taken (found-later text at (readClosed (truthValue value)) same k (f .1)) (omega (arith, f .1 .after)));
+          kept = refl;
+        }
     truth-behind value end h same (relation.Listed next kept) f = absurd f
     truth-behind value end h same relation.Malformed f = refused-later text at (readClosed (truthValue value)) same f
 
     pub relation-true : WordFound (bytes "true") text (at + 5) (at + 5 + 4)
         → (r : RelationRead) → ToldTruth true text (at + 5 + 4) r → ToldRelation n total arity to old old text at r
     unfolding readRelation
-    relation-true w = truth-behind true (at + 5 + 4) (omega arith) (rw (found-word text at 3 (bytes "rows=") named .is, oneOf-this text (at + 5) (bytes "true") _ _ _ w))
+    relation-true w =
+        truth-behind true (at + 5 + 4) (omega arith)
+        (rw (found-word text at 3 (bytes "rows=") named .is, oneOf-this text (at + 5) (bytes "true") _ _ _ w))
 
     module _ (untrue : begins (bytes "true") (drop (at + 5) text) ≡ false) where
       pub relation-false : WordFound (bytes "false") text (at + 5) (at + 5 + 5)
@@ -112,7 +118,11 @@ module _ (n total arity to : ℕ) (old : List ℕ) (text : Bytes) (at : ℕ) whe
       unfolding readRelation
       relation-false w =
           truth-behind false (at + 5 + 5) (omega arith)
-          (rw (found-word text at 3 (bytes "rows=") named .is, oneOf-other text (at + 5) (bytes "true") _ _ _ untrue, oneOf-this text (at + 5) (bytes "false") _ _ _ w))
+          (rw (
+            found-word text at 3 (bytes "rows=") named .is,
+            oneOf-other text (at + 5) (bytes "true") _ _ _ untrue,
+            oneOf-this text (at + 5) (bytes "false") _ _ _ w,
+          ))
 
       pub relation-listed : begins (bytes "false") (drop (at + 5) text) ≡ false → (new : List ℕ) (r : RelationRead)
           → ToldListed n total arity to old new text (at + 5) r → ToldRelation n total arity to old new text at r
@@ -121,12 +131,20 @@ module _ (n total arity to : ℕ) (old : List ℕ) (text : Bytes) (at : ℕ) whe
         where
           behind : readRelation (drop at text) ≡ readListed (drop (at + 5) text)
           behind =
-              rw (found-word text at 3 (bytes "rows=") named .is, oneOf-other text (at + 5) (bytes "true") _ _ _ untrue, oneOf-other text (at + 5) (bytes "false") _ _ _ unfalse)
+              rw (
+                found-word text at 3 (bytes "rows=") named .is,
+                oneOf-other text (at + 5) (bytes "true") _ _ _ untrue,
+                oneOf-other text (at + 5) (bytes "false") _ _ _ unfalse,
+              )
 
           pick : (r : RelationRead) → ToldListed n total arity to old new text (at + 5) r → ToldRelation n total arity to old new text at r
           pick (relation.Truth next told) f = absurd f
           pick (relation.Listed next kept) f =
-              record { list = f .list; found = found-later text at readListed behind (omega arith) (f .found); told = f .told }
+              record {
+                list = f .list;
+                found = found-taken (found-later text at readListed behind (omega arith) (taken-found (f .found))) (omega (arith, f .found .after));
+                told = f .told;
+              }
           pick relation.Malformed f = refused-later text at readListed behind f
 
 -- The rows of a predicate.
@@ -159,7 +177,7 @@ module _ (arity to : ℕ) (lent : List ℕ) where
     given-truth-unsuited h =
         record {
           told = λ n total old text at room f P suits.
-              (refused-then _ (f .found) (refused-judge text next (truth-unsuited P value arity h)), omega arith);
+              (refused-then _ (taken-found (f .found)) (refused-judge text next (truth-unsuited P value arity h)), omega arith);
         }
 
     -- rows that a truth value is
@@ -170,7 +188,7 @@ module _ (arity to : ℕ) (lent : List ℕ) where
         record {
           told = λ n total old text at room f. record {
             list = ts;
-            found = λ P suits. rw none (found-then _ (f .found) (found-judge text next (is P) (f .found .within)));
+            found = λ P suits. rw none (found-taken (found-then _ (taken-found (f .found)) (found-judge text next (is P) (f .found .within))) (f .found .after));
             stored = rw none (stored n total old (f .kept) room);
           };
         }
@@ -192,7 +210,7 @@ module _ (arity to : ℕ) (lent : List ℕ) where
     given-list-unsuited kept h =
         record {
           told = λ n total old text at room f P suits.
-              (refused-then _ (f .found) (refused-judge text next (list-unsuited P (f .list) arity h)), omega arith);
+              (refused-then _ (taken-found (f .found)) (refused-judge text next (list-unsuited P (f .list) arity h)), omega arith);
         }
 
     module _ (some : arity ≡ 0 → ⊥) where
@@ -201,7 +219,7 @@ module _ (arity to : ℕ) (lent : List ℕ) where
           record {
             told = λ n total old text at room f P suits.
                 let unfit : rowsAllowed n total arity (f .list) ≡ false = rw append-nil at (f .told (omega arith) []) in
-                (refused-then _ (f .found) (refused-judge text next (list-judged P n total suits (f .list) arity some ∙ rw unfit)), omega arith);
+                (refused-then _ (taken-found (f .found)) (refused-judge text next (list-judged P n total suits (f .list) arity some ∙ rw unfit)), omega arith);
           }
 
       pub given-fitting : (count last : ℕ) → RowsGiven arity to (relation.Listed next (rows.Fitting count last)) lent lent (answer.Rows next count)
@@ -214,7 +232,9 @@ module _ (arity to : ℕ) (lent : List ℕ) where
                 let size : tupleSize arity (f .list) ≡ length (f .list) = rw (ne-eqb arity 0 some) in
                 record {
                   list = f .list;
-                  found = λ P suits. found-then _ (f .found) (found-judge text next (list-judged P n total suits (f .list) arity some ∙ rw fit) (f .found .within));
+                  found = λ P suits.
+                      let is : rowsFor P arity (tuples (f .list)) ≡ done (f .list) = list-judged P n total suits (f .list) arity some ∙ rw fit in
+                      found-taken (found-then _ (taken-found (f .found)) (found-judge text next is (f .found .within))) (f .found .after);
                   stored = record {
                     stored = told .stored;
                     counted = told .counted;

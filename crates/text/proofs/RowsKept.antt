@@ -2,18 +2,17 @@
 -- Assumes nothing.
 use Prim.Native.Nat.{ℕ, suc, zero, _+_, _*_, _≤_, _<_}
 use native.Mathlib.Omega.{arith}
-use mathlib.Core.Path.{_≡_, refl, sym, ap, ap₂, _∙_}
+use mathlib.Core.Path.{_≡_, refl, sym, ap, _∙_}
 use mathlib.Core.List.{List, [], _∷_, _++_, append-assoc, append-nil, map, map-append}
-use mathlib.Core.Bool.{Bool, true, false, _&&_, _||_, and-true, and-false, and-assoc, false≢true}
-use lib.Dec.{eqb, leb, ltb}
+use mathlib.Core.Bool.{Bool, true, false, _&&_, and-true, and-false, and-assoc, false≢true}
+use lib.Dec.{leb, ltb}
 use lib.ListN.{length, set, length-append, length-map}
-use lib.Seq.{sets}
-use borrow.Author.Tests.{eqb-true, le-leb, lt-leb, leb-true, lt-ltb, le-ltb}
+use borrow.Author.Tests.{le-leb, lt-leb, leb-true, lt-ltb, le-ltb}
 use Rattle.text.specs.Sizes.{tupleCount}
 use Rattle.text.specs.Bytes.{every}
 use Rattle.text.specs.Problem.{Row, isElement, rowFits, rowsFit, before, ascending}
 use Rattle.text.specs.memory.Table.{packed, placed, ranked, rankAfter}
-use Rattle.text.specs.memory.Rows.{RowFound, ToldRow, RowBounded, RowMore, rowsAllowed, lastRank, RowsFound, ToldRows, RowsBounded, RowsMore}
+use Rattle.text.specs.memory.Rows.{RowFound, ToldRow, RowBounded, RowMore, rowsAllowed, lastRank, RowsFound, RowsMore}
 use Rattle.text.specs.declared.rows.RowKept.{RowKept}
 use Rattle.text.specs.declared.rows.RowKept.the-variants as row
 use Rattle.text.specs.declared.rows.RowsKept.{RowsKept}
@@ -89,7 +88,7 @@ module _ (n : ℕ) where
               }
 
   -- elements are digits, and so are the numbers of three of them bounded
-  every-digits : n ≤ 64 → (vs : Row) → every (isElement n) vs ≡ true → Digits vs
+  pub every-digits : n ≤ 64 → (vs : Row) → every (isElement n) vs ≡ true → Digits vs
   every-digits small [] e = tt
   every-digits small (v ∷ vs) e =
       let h : v ≤ n = leb-true v n (and-right (leb 1 v) (leb v n) (and-left (isElement n v) (every (isElement n) vs) e)) in
@@ -120,11 +119,12 @@ ascending-broken [] more e = absurd (false≢true (sym e))
 ascending-broken (t ∷ []) more e = absurd (false≢true (sym e))
 ascending-broken (t ∷ u ∷ ts) more e = pick (before t u) e (ascending-broken (u ∷ ts) more)
   where
-    pick : (b : Bool) → (b && ascending (u ∷ ts)) ≡ false → (ascending (u ∷ ts) ≡ false → ascending (u ∷ (ts ++ more)) ≡ false) → (b && ascending (u ∷ (ts ++ more))) ≡ false
+    pick : (b : Bool) → (b && ascending (u ∷ ts)) ≡ false → (ascending (u ∷ ts) ≡ false → ascending (u ∷ (ts ++ more)) ≡ false)
+        → (b && ascending (u ∷ (ts ++ more))) ≡ false
     pick true f ih = ih f
     pick false f ih = refl
 
-rowFits-is : (n : ℕ) (t : Row) (arity : ℕ) → rowFits n arity t ≡ true → (length t ≡ arity) × (every (isElement n) t ≡ true)
+pub rowFits-is : (n : ℕ) (t : Row) (arity : ℕ) → rowFits n arity t ≡ true → (length t ≡ arity) × (every (isElement n) t ≡ true)
 rowFits-is n [] zero e = (refl, refl)
 rowFits-is n [] (suc arity) e = absurd (false≢true e)
 rowFits-is n (v ∷ t) zero e = absurd (false≢true e)
@@ -235,10 +235,22 @@ module _ (total arity : ℕ) where
                   → RowsFound n total arity to old lent ts count last → RowsFound n total arity to old left (ts ++ (t ∷ [])) (count + 1) rank
               more n old ts t small row told =
                   record {
-                    stored = stored ∙ rw (map-append packed ts (t ∷ []), sets-append old to (map packed ts) (packed t ∷ []), length-map ts packed, ← told .counted, ← told .stored, ← row .numbered);
+                    stored = stored ∙ rw (
+                      map-append packed ts (t ∷ []),
+                      sets-append old to (map packed ts) (packed t ∷ []),
+                      length-map ts packed,
+                      ← told .counted,
+                      ← told .stored,
+                      ← row .numbered,
+                    );
                     counted = simp length-append (omega (arith, told .counted));
                     fit = rw (rowsFit-append n arity ts (t ∷ []), told .fit, fits n t row);
-                    ordered = rw (ascending-more n arity small (some n t row) ts t (told .fit) (fits n t row), told .ordered, ← told .order, ← row .order) (lt-ltb last rank after);
+                    ordered = rw (
+                      ascending-more n arity small (some n t row) ts t (told .fit) (fits n t row),
+                      told .ordered,
+                      ← told .order,
+                      ← row .order,
+                    ) (lt-ltb last rank after);
                     order = row .order ∙ sym (lastRank-more ts t);
                     room = simp length-append (omega (arith, told .counted));
                   }

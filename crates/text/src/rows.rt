@@ -7,7 +7,8 @@ ghost use mathlib.Core.Path.{_≡_};
 ghost use Prim.Native.Nat.{_+_, _≤_, _<_};
 ghost use lib.ListN.{length, set};
 ghost use Rattle.text.specs.memory.Table.{placed};
-ghost use Rattle.text.specs.memory.Rows.{RowBounded, RowMore, ToldElement, ToldTuple, RowsBounded, RowsMore, ToldTuples, ToldTruth, ToldListed, ToldRelation, RowsGiven, ToldRowsRead};
+ghost use Rattle.text.specs.memory.Rows.{RowBounded, RowMore, ToldElement, ToldTuple, RowsBounded, RowsMore, ToldTuples};
+ghost use Rattle.text.specs.memory.Rows.{ToldTruth, ToldListed, ToldRelation, RowsGiven, ToldRowsRead};
 
 // Elements that can be a row: how many, the row's number, and the elements read as digits; or such as are none.
 pub enum RowKept {

@@ -2,9 +2,10 @@
 use crate::name::equal;
 use crate::name::part;
 ghost use mathlib.Core.Path.{_≡_};
+ghost use Prim.Native.Nat.{_<_};
 ghost use lib.ListN.{getD, take, drop};
 ghost use Rattle.text.specs.Bytes.{same};
-ghost use Rattle.text.specs.memory.Table.{tableName, tableNames, position, among, tableNumbers};
+ghost use Rattle.text.specs.memory.Table.{tableName, tableNames, position, among, tableNumbers, Columns, withName, withRows};
 
 // The first predicates are the inputs, the others the outputs, in the problem's order.
 pub struct Table {
@@ -84,4 +85,29 @@ pub fn holds_row(table: Table, rows: &[u32], predicate: u32, key: u32) -> bool
         entry(counts, predicate),
         key,
     )
+}
+
+// A table with a predicate's name and arity entered at the index behind its predicates.
+pub fn entered(table: Table, start: u32, size: u32, arity: u32) -> Table
+    requires { ⌜ table .count < 32 ⌝ }
+    ensures { λ r. ⌜ (r ≡ withName table start size arity) × Columns table ⌝ }
+{
+    let i = table.count as usize;
+    let mut more = table;
+    more.start[i] = start;
+    more.size[i] = size;
+    more.arity[i] = arity;
+    more
+}
+
+// A table with the place of that predicate's rows.
+pub fn with_rows(table: Table, first: u32, rows: u32) -> Table
+    requires { ⌜ table .count < 32 ⌝ }
+    ensures { λ r. ⌜ (r ≡ withRows table first rows) × Columns table ⌝ }
+{
+    let i = table.count as usize;
+    let mut more = table;
+    more.first[i] = first;
+    more.rows[i] = rows;
+    more
 }

@@ -1,11 +1,10 @@
 -- What the code tells of the lines that declare: the domain's size, and a predicate by its name's size and its arity.
 use Prim.Native.Nat.{ℕ, _+_, _≤_, _<_}
-use mathlib.Core.Path.{_≡_}
-use lib.ListN.{length, take, drop}
+use lib.ListN.{take, drop}
 use Rattle.text.specs.Bytes.{Bytes, bytes}
 use Rattle.text.specs.Reading.{Reader, give, _>>=_, _>>_, word, readNumber}
 use Rattle.text.specs.Problem.{Predicate, readPredicate}
-use Rattle.text.specs.memory.Found.{Found, Refused}
+use Rattle.text.specs.memory.Found.{Found, Taken, Refused}
 use Rattle.text.specs.memory.Numbers.{beyond}
 use Rattle.text.specs.declared.number.Number.{Number}
 use Rattle.text.specs.declared.number.Number.the-variants.{Value, Beyond, Malformed}
@@ -26,13 +25,16 @@ pub record LargeRead (reader : Reader ℕ) (text : Bytes) (at next : ℕ) : Type
   pub large : beyond ≤ number
 
 abbrev pub ToldLast : Reader ℕ → Bytes → ℕ → Number → Type 0
-ToldLast reader text at (Value next number) = Found reader text at number next
+ToldLast reader text at (Value next number) = Taken reader text at number next
 ToldLast reader text at (Beyond next) = LargeRead reader text at next
 ToldLast reader text at Malformed = Refused 3 reader text at
 
--- a predicate is read, whose name stands at the place
+-- a predicate whose name stands at a place
+abbrev pub predicateAt : Bytes → ℕ → ℕ → ℕ → Predicate
+predicateAt text at size arity = record { name = take size (drop at text); arity = arity }
+
 pub record PredicateFound (text : Bytes) (at size arity next : ℕ) : Type 0 where
-  pub found : Found readPredicate text at (record { name = take size (drop at text); arity = arity }) next
+  pub found : Found readPredicate text at (predicateAt text at size arity) next
   pub short : at + size < next
 
 -- a predicate is read whose arity is too large to be told

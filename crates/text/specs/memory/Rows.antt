@@ -1,5 +1,5 @@
 -- What the code tells of rows as it reads, judges and stores them.
-use Prim.Native.Nat.{ℕ, suc, zero, _+_, _≤_, _<_}
+use Prim.Native.Nat.{ℕ, _+_, _≤_, _<_}
 use mathlib.Core.Path.{_≡_}
 use mathlib.Core.List.{List, [], _∷_, _++_, map}
 use mathlib.Core.Bool.{Bool, true, false, cond, _&&_}
@@ -9,9 +9,9 @@ use lib.Seq.{sets}
 use Rattle.text.specs.Sizes.{tupleCount}
 use Rattle.text.specs.Bytes.{Bytes, bytes, every}
 use Rattle.text.specs.Reading.{Reader, give, _>>=_, _>>_, judge, word, readNumber, separated}
-use Rattle.text.specs.Problem.{Row, Problem, isElement, rowFits, rowsFit, ascending, tupleTotal, Relation, truthValue, tuples, readTuples, readRelation, rowsFor}
-use Rattle.text.specs.memory.Found.{Found, Refused}
-use Rattle.text.specs.memory.Numbers.{NumberFound}
+use Rattle.text.specs.Problem.{Row, Problem, isElement, rowFits, rowsFit, ascending, tupleTotal}
+use Rattle.text.specs.Problem.{Relation, truthValue, tuples, readTuples, readRelation, rowsFor}
+use Rattle.text.specs.memory.Found.{Found, Taken, Refused}
 use Rattle.text.specs.memory.Table.{packed, ranked}
 use Rattle.text.specs.declared.rows.RowKept.{RowKept}
 use Rattle.text.specs.declared.rows.RowKept.the-variants as row
@@ -139,7 +139,7 @@ readListed = (readTuples >>= λ ts. give (tuples ts)) >>= readClosed
 
 pub record ListedFound (reader : Reader Relation) (n total arity to : ℕ) (old new : List ℕ) (text : Bytes) (at : ℕ) (kept : RowsKept) (next : ℕ) : Type 0 where
   pub list : List Row
-  pub found : Found reader text at (tuples list) next
+  pub found : Taken reader text at (tuples list) next
   pub told : ToldRows n total arity to old new list kept
 
 abbrev pub ToldListed : ℕ → ℕ → ℕ → ℕ → List ℕ → List ℕ → Bytes → ℕ → RelationRead → Type 0
@@ -148,7 +148,7 @@ ToldListed n total arity to old new text at (relation.Listed next kept) = Listed
 ToldListed n total arity to old new text at relation.Malformed = Refused 3 readListed text at
 
 pub record TruthFound (old new : List ℕ) (text : Bytes) (at : ℕ) (value : Bool) (next : ℕ) : Type 0 where
-  pub found : Found readRelation text at (truthValue value) next
+  pub found : Taken readRelation text at (truthValue value) next
   pub kept : new ≡ old
 
 abbrev pub ToldRelation : ℕ → ℕ → ℕ → ℕ → List ℕ → List ℕ → Bytes → ℕ → RelationRead → Type 0
@@ -183,7 +183,7 @@ pub record Suits (n total : ℕ) (P : Problem) : Type 0 where
 
 pub record RowsTaken (n total arity to : ℕ) (old new : List ℕ) (text : Bytes) (at count next : ℕ) : Type 0 where
   pub list : List Row
-  pub found : (P : Problem) → Suits n total P → Found (readRows P arity) text at list next
+  pub found : (P : Problem) → Suits n total P → Taken (readRows P arity) text at list next
   pub stored : RowsStored n total arity to old new list count
 
 abbrev pub ToldRowsRead : ℕ → ℕ → ℕ → ℕ → List ℕ → List ℕ → Bytes → ℕ → RowsRead → Type 0

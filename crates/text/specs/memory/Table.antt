@@ -1,9 +1,10 @@
 -- The problem that a table of places in a text, and numbers in lent memory, stand for.
 use Prim.Native.Nat.{ℕ, suc, zero, _+_, _-_, _*_, _/_, _%_}
+use mathlib.Core.Path.{_≡_}
 use mathlib.Core.List.{List, [], _∷_, map}
-use mathlib.Core.Bool.{Bool, true, false, cond, _||_}
+use mathlib.Core.Bool.{Bool, false, cond, _||_}
 use lib.Dec.{eqb}
-use lib.ListN.{length, getD, take, drop}
+use lib.ListN.{length, getD, take, drop, set}
 use Rattle.text.specs.Bytes.{Bytes, same}
 use Rattle.text.specs.Outcome.{done, refused}
 use Rattle.text.specs.Lines.{Judged, refusal}
@@ -79,3 +80,67 @@ module _ (text : Bytes) (table : Table) (rows : List ℕ) where
 unfoldable pub outcomeOf : ℕ → ℕ → Problem → Judged Problem
 outcomeOf zero line P = done P
 outcomeOf (suc number) line P = refused (refusal (suc number) 1 line)
+
+-- every column has its length
+pub record Columns (table : Table) : Type 0 where
+  pub starts : length (table .start) ≡ 32
+  pub sizes : length (table .size) ≡ 32
+  pub arities : length (table .arity) ≡ 32
+  pub firsts : length (table .first) ≡ 32
+  pub counts : length (table .rows) ≡ 32
+
+-- a domain of so many elements
+abbrev pub withDomain : Table → ℕ → Table
+withDomain table n =
+    record {
+      domain = n;
+      inputs = table .inputs;
+      count = table .count;
+      start = table .start;
+      size = table .size;
+      arity = table .arity;
+      first = table .first;
+      rows = table .rows;
+    }
+
+-- a name and an arity entered behind the predicates
+abbrev pub withName : Table → ℕ → ℕ → ℕ → Table
+withName table start size arity =
+    record {
+      domain = table .domain;
+      inputs = table .inputs;
+      count = table .count;
+      start = set (table .start) (table .count) start;
+      size = set (table .size) (table .count) size;
+      arity = set (table .arity) (table .count) arity;
+      first = table .first;
+      rows = table .rows;
+    }
+
+-- and the place and the count of its rows
+abbrev pub withRows : Table → ℕ → ℕ → Table
+withRows table first rows =
+    record {
+      domain = table .domain;
+      inputs = table .inputs;
+      count = table .count;
+      start = table .start;
+      size = table .size;
+      arity = table .arity;
+      first = set (table .first) (table .count) first;
+      rows = set (table .rows) (table .count) rows;
+    }
+
+-- so many inputs, and so many predicates in all
+abbrev pub counted : Table → ℕ → ℕ → Table
+counted table inputs count =
+    record {
+      domain = table .domain;
+      inputs = inputs;
+      count = count;
+      start = table .start;
+      size = table .size;
+      arity = table .arity;
+      first = table .first;
+      rows = table .rows;
+    }
