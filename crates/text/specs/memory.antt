@@ -5,3 +5,4 @@ pub mod Table
 pub mod RuleLines
 pub mod Declarations
 pub mod Rows
+pub mod ProblemLines

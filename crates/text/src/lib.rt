@@ -4,6 +4,7 @@ pub mod declaration;
 pub mod line;
 pub mod name;
 pub mod number;
+pub mod problem_line;
 pub mod rows;
 pub mod rule_line;
 pub mod table;

@@ -1,0 +1,139 @@
+-- A problem's text, line after line: the definition's outcome is its outcome on the rest of the text, from the part that the table stands for.
+-- Assumes nothing.
+use Prim.Native.Nat.{ℕ, suc, zero, _+_, _-_, _≤_, _<_}
+use native.Mathlib.Omega.{arith}
+use mathlib.Core.Path.{_≡_, refl, sym, subst, _∙_}
+use mathlib.Core.List.{List}
+use lib.ListN.{length, drop, length-drop, drop-of-length-le}
+use Rattle.text.specs.Bytes.{Bytes}
+use Rattle.text.specs.Outcome.{done, refused, _>>=_}
+use Rattle.text.specs.Lines.{refusal, onLine, readLines}
+use Rattle.text.specs.Problem.{Predicate, Problem, Part, start, declaring, problemLine, readOutput, wholeProblem, problemOf}
+use Rattle.text.specs.memory.Table.{indexed, tablePredicate, problemIn, outcomeOf}
+use Rattle.text.specs.memory.ProblemLines.{partAt, partIn, Standing, PartFound, ToldPart, LineTold, endNumber, Beginning, ProblemTold}
+use Rattle.text.specs.declared.problem_line.Stage.{Stage}
+use Rattle.text.specs.declared.problem_line.Stage.the-variants.{Start, Declaring, Awaiting, Closing}
+use Rattle.text.specs.declared.problem_line.Progress.{Progress}
+use Rattle.text.specs.declared.problem_line.LineRead.{LineRead}
+use Rattle.text.specs.declared.problem_line.ProblemRead.{ProblemRead}
+use Rattle.text.proofs.Lines.{readLines-step, readLines-end}
+use Rattle.text.proofs.Outcome.{allowed-done}
+use Rattle.text.proofs.Problem.{Valid}
+use Rattle.text.proofs.ProblemText.{problemOf-valid}
+
+-- The problem's lines.
+
+-- what is read so far, and what is left from a place and a line on
+pub record ProblemGoing (text : Bytes) (p : Progress) (rows : List ℕ) (at line : ℕ) : Type 0 where
+  pub most : ℕ
+  pub is : problemOf text ≡ readLines 1 problemLine wholeProblem most line (partIn text p rows) (drop at text)
+  pub enough : length text ≤ most + at
+  pub standing : Standing text p rows
+  pub within : at ≤ length text
+  pub lines : line ≤ at + 1
+
+module _ (text : Bytes) (p : Progress) (rows : List ℕ) where
+  pub going-first : Beginning p → ProblemGoing text p rows 0 1
+  unfolding problemOf problemIn indexed
+  going-first b =
+      record {
+        most = length text;
+        is = rw (b .stage);
+        enough = omega arith;
+        standing = record {
+          staged = rw (b .stage) (b .inputs, b .count);
+          few = omega (arith, b .count);
+          inside = omega (arith, b .inputs);
+          small = omega (arith, b .domain);
+          sum = rw (b .inputs, b .total);
+          room = omega (arith, b .total);
+          short = omega (arith, b .used);
+          stored = λ i h. absurd (omega (arith, b .inputs));
+        };
+        within = omega arith;
+        lines = omega arith;
+      }
+
+  module _ (at line : ℕ) (going : ProblemGoing text p rows at line) where
+    module _ (more : at < length text) where
+      step : problemOf text
+          ≡ (onLine 1 line (problemLine (partIn text p rows) (drop at text)) >>= λ r. readLines 1 problemLine wholeProblem (going .most - 1) (line + 1) (r .0) (r .1))
+      step =
+          going .is ∙ readLines-step 1 problemLine wholeProblem (going .most) line (partIn text p rows) (drop at text)
+          (omega (arith, going .enough)) (omega (arith, length-drop at text))
+
+      pub going-refused : (number next : ℕ) (q : Progress) (new : List ℕ) → (number ≡ 0 → ⊥) → ToldPart (problemLine (partIn text p rows)) text at new number next q
+          → ProblemTold text new (record { number = number; line = line; table = p .table })
+      unfolding outcomeOf
+      going-refused zero next q new h f = absurd (h refl)
+      going-refused (suc number) next q new h f =
+          record { is = step ∙ rw (f .is); inside = going .standing .inside; few = going .standing .few }
+
+      pub going-on : (next : ℕ) (q : Progress) (new : List ℕ) → PartFound (problemLine (partIn text p rows)) text at new next q
+          → ProblemGoing text q new next (line + 1)
+      going-on next q new f =
+          record {
+            most = going .most - 1;
+            is = step ∙ rw (f .found .is);
+            enough = omega (arith, going .enough, f .found .after);
+            standing = f .standing;
+            within = f .found .within;
+            lines = omega (arith, going .lines, f .found .after);
+          }
+
+    pub going-end : length text ≤ at → ProblemTold text rows (record { number = endNumber (p .stage); line = line; table = p .table })
+    unfolding outcomeOf
+    going-end h =
+        record {
+          is = going .is ∙ rw (drop-of-length-le text h, readLines-end 1 problemLine wholeProblem (going .most) line (partIn text p rows))
+              (pick (p .stage) (problemIn text (p .table) rows) (tablePredicate text (p .table) (p .table .count)));
+          inside = going .standing .inside;
+          few = going .standing .few;
+        }
+      where
+        pick : (stage : Stage) (P : Problem) (q : Predicate) → onLine 1 line (wholeProblem (partAt stage P q)) ≡ outcomeOf (endNumber stage) line P
+        pick Start P q = refl
+        pick Declaring P q = refl
+        pick Awaiting P q = refl
+        pick Closing P q = refl
+
+-- A line where the reading stands.
+
+module _ (text : Bytes) (at : ℕ) (p : Progress) (r : LineRead) (rows : List ℕ) (standing : Standing text p rows) where
+  abbrev P : Problem
+  P = problemIn text (p .table) rows
+
+  abbrev Told : Part → Type 0
+  Told part = ToldPart (problemLine part) text at rows (r .number) (r .next) (r .progress)
+
+  -- by what the part is at a stage
+  line-at : (stage : Stage) → p .stage ≡ stage → Told (partAt stage P (tablePredicate text (p .table) (p .table .count))) → Told (partIn text p rows)
+  line-at stage e f = subst (λ s. Told (partAt s P (tablePredicate text (p .table) (p .table .count)))) (sym e) f
+
+  pub line-start : p .stage ≡ Start → LineTold (λ rows. problemLine start) text at p r → Told (partIn text p rows)
+  line-start e f = line-at Start e (f .told rows standing)
+
+  pub line-declaring : p .stage ≡ Declaring → LineTold (λ rows. problemLine (declaring (problemIn text (p .table) rows))) text at p r → Told (partIn text p rows)
+  line-declaring e f = line-at Declaring e (f .told rows standing)
+
+  pub line-closing : p .stage ≡ Closing → LineTold (λ rows. readOutput (problemIn text (p .table) rows)) text at p r → Told (partIn text p rows)
+  unfolding problemLine
+  line-closing e f = line-at Closing e (f .told rows standing)
+
+-- What is read, in the definition's words.
+
+module _ (text : Bytes) (rows : List ℕ) (r : ProblemRead) (told : ProblemTold text rows r) where
+  pub problem-done : r .number ≡ 0 → problemOf text ≡ done (problemIn text (r .table) rows)
+  unfolding outcomeOf
+  problem-done e = told .is ∙ rw e
+
+  pub problem-valid : r .number ≡ 0 → Valid (problemIn text (r .table) rows)
+  problem-valid e = allowed-done Valid (problemOf text) (problemIn text (r .table) rows) (problemOf-valid text) (problem-done e)
+
+  pub problem-refused : (r .number ≡ 0 → ⊥) → problemOf text ≡ refused (refusal (r .number) 1 (r .line))
+  unfolding outcomeOf
+  problem-refused h = told .is ∙ pick (r .number) h
+    where
+      pick : (number : ℕ) → (number ≡ 0 → ⊥) → outcomeOf number (r .line) (problemIn text (r .table) rows) ≡ refused (refusal number 1 (r .line))
+      pick zero h = absurd (h refl)
+      pick (suc number) h = refl

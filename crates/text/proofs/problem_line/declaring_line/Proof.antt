@@ -1,0 +1,51 @@
+-- `problem_line::declaring_line` tells an input from an output by its word.
+-- Assumes nothing.
+use borrow.Author.Needs.{needs}
+use native.Mathlib.Omega.{arith}
+use mathlib.Core.Path.{sym, _∙_}
+use Rattle.text.specs.Bytes.{bytes}
+use Rattle.text.proofs.Found.{word-found}
+use Rattle.text.proofs.ProblemPlaces.{declaring-input, declaring-output}
+use Rattle.text.proofs.problem_line.declaring_line.Statement.{statement}
+use Rattle.text.proofs.problem_line.declaring_line.Tie as tie
+
+slice-aggregate-begins-at : tie.Need-slice-aggregate-begins-at
+slice-aggregate-begins-at c = search needs
+
+begins-at-requires : tie.Need-begins-at-requires
+begins-at-requires c κs = search needs
+
+add-input-line : tie.Need-add-input-line
+add-input-line c = search needs
+
+input-line-requires : tie.Need-input-line-requires
+input-line-requires c κs =
+    let a = c .before .before .before .before .args in
+    let w = word-found (a .text .now) (a .at) (bytes "input=") (c .before .before .before .before .pre .0) (sym (c .before .begins-at .ensures) ∙ c .if1 .taken) in
+    (omega (arith, w .within), c .before .before .before .before .pre .1, c .before .before .before .before .pre .3)
+
+returns : tie.Need-returns
+returns c =
+    let a = c .before .before .before .before .before .args in
+    let w = word-found (a .text .now) (a .at) (bytes "input=") (c .before .before .before .before .before .pre .0) (sym (c .before .before .begins-at .ensures) ∙ c .before .if1 .taken) in
+    declaring-input (a .text .now) (a .at) (a .progress) (c .input-line .result) w (c .input-line .ensures)
+
+output-line-requires : tie.Need-output-line-requires
+output-line-requires c κs = search needs
+
+returns-2 : tie.Need-returns-2
+returns-2 c =
+    let a = c .before .before .before .before .before .args in
+    declaring-output (a .text .now) (a .at) (a .progress) (c .output-line .result) (sym (c .before .before .begins-at .ensures) ∙ c .before .if1 .left) (c .output-line .ensures)
+
+pub declaring-line-spec : {M : Type 1} → statement M
+declaring-line-spec =
+    tie.close
+    (tie.spec
+    slice-aggregate-begins-at
+    begins-at-requires
+    add-input-line
+    input-line-requires
+    returns
+    output-line-requires
+    returns-2)

@@ -1,0 +1,32 @@
+-- `problem_line::fits` makes each test of a predicate that may join.
+-- Assumes nothing.
+use borrow.Author.Needs.{needs}
+use Rattle.text.proofs.ProblemPlaces.{fits-arity, fits-size, fits-count, fits-else}
+use Rattle.text.proofs.problem_line.fits.Statement.{statement}
+use Rattle.text.proofs.problem_line.fits.Tie as tie
+
+returns : tie.Need-returns
+returns c =
+    let a = c .before .before .args in
+    fits-arity (a .text .now) (a .table) (a .start) (a .size) (a .arity) (c .before .before .pre) (c .if1 .taken)
+
+returns-2 : tie.Need-returns-2
+returns-2 c =
+    let a = c .before .before .before .args in
+    fits-size (a .text .now) (a .table) (a .start) (a .size) (a .arity) (c .before .before .before .pre) (c .if2 .taken)
+
+returns-3 : tie.Need-returns-3
+returns-3 c =
+    let a = c .before .before .before .before .before .args in
+    fits-count (a .text .now) (a .table) (a .start) (a .size) (a .arity) (c .before .before .before .before .before .pre) (c .if3 .taken)
+
+find-requires : tie.Need-find-requires
+find-requires c κs = search needs
+
+returns-4 : tie.Need-returns-4
+returns-4 c =
+    let a = c .before .before .before .before .before .before .before .args in
+    fits-else (a .text .now) (a .table) (a .start) (a .size) (a .arity) (c .before .before .before .before .before .before .before .pre) (c .before .before .before .before .before .if1 .left) (c .before .before .before .before .if2 .left) (c .before .before .if3 .left) (c .before .find .result) (c .before .find .ensures)
+
+pub fits-spec : {M : Type 1} → statement M
+fits-spec = tie.close (tie.spec returns returns-2 returns-3 find-requires returns-4)

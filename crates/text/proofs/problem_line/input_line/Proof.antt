@@ -1,0 +1,25 @@
+-- `problem_line::input_line` takes a predicate that joins, whose rows are awaited.
+-- Assumes nothing.
+use borrow.Author.Needs.{needs}
+use Rattle.text.proofs.ProblemPlaces.{input-failed, input-line}
+use Rattle.text.proofs.problem_line.input_line.Statement.{statement}
+use Rattle.text.proofs.problem_line.input_line.Tie as tie
+
+declared-requires : tie.Need-declared-requires
+declared-requires c κs = search needs
+
+failed-requires : tie.Need-failed-requires
+failed-requires c κs = search needs
+
+returns : tie.Need-returns
+returns c =
+    let a = c .before .before .before .before .before .before .args in
+    rw (c .failed .ensures) (input-failed (a .text .now) (a .at) (a .progress) (c .before .before .before .declared .result) (c .before .before .before .declared .ensures) (c .before .if1 .taken))
+
+returns-2 : tie.Need-returns-2
+returns-2 c =
+    let a = c .before .before .before .before .before .before .args in
+    input-line (a .text .now) (a .at) (a .progress) (c .before .before .before .declared .result) (c .before .before .before .declared .ensures) (c .before .if1 .left) (c .before .before .before .before .before .before .pre .2)
+
+pub input-line-spec : {M : Type 1} → statement M
+input-line-spec = tie.close (tie.spec declared-requires failed-requires returns returns-2)

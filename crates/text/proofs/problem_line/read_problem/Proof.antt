@@ -1,0 +1,93 @@
+-- `problem_line::read_problem` reads line after line. The invariant: what the text is, is what its rest makes of the part that is read so far.
+-- Assumes nothing.
+use borrow.Author.Needs.{needs}
+use native.Mathlib.Omega.{arith}
+use Prim.Native.Nat.{ℕ, _-_}
+use mathlib.Core.Path.{_≡_, refl, subst, _∙_}
+use lib.ListN.{length}
+use Rattle.text.specs.Problem.{problemLine}
+use Rattle.text.specs.memory.ProblemLines.{partIn, ToldPart}
+use Rattle.text.proofs.ProblemLoop.{ProblemGoing, going-first, going-refused, going-on, going-end}
+use Rattle.text.proofs.problem_line.read_problem.Statement.{statement}
+use Rattle.text.proofs.problem_line.read_problem.Tie as tie
+
+abbrev Inv-loop : tie.InvT-loop
+Inv-loop text rows₀ progress₀ at₀ line₀ rows progress at line = ProblemGoing text progress rows at line × (length rows ≡ length rows₀)
+
+abbrev μ-loop : tie.MeasureT-loop
+μ-loop text rows₀ progress₀ at₀ line₀ rows progress at line = length text - at
+
+beginning-requires : tie.Need-beginning-requires Inv-loop μ-loop
+beginning-requires c κs = search needs
+
+loop-holds : tie.Need-loop-holds Inv-loop μ-loop
+loop-holds c =
+    let a = c .before .before .before .args in
+    (going-first (a .text .now) (c .beginning .result) (a .rows .now) (c .beginning .ensures), refl)
+
+line-at-requires : tie.Need-line-at-requires Inv-loop μ-loop
+line-at-requires c κs =
+    let g = c .before .before .loop .inv .0 in
+    (g .within, c .before .before .before .before .before .before .pre .0, g .standing, omega (arith, c .before .before .loop .inv .1, c .before .before .before .before .before .before .pre .1))
+
+same-length : tie.Need-same-length Inv-loop μ-loop
+same-length c = c .before .before .before .before .before .line-at .kept .1 .1 .1 .0 ∙ c .before .before .before .before .before .before .before .before .loop .inv .1
+
+returns : tie.Need-returns Inv-loop μ-loop
+returns c =
+    let a = c .before .before .before .before .before .before .before .before .before .before .before .before .args in
+    let l = c .before .before .before .before .before .before .before .before .loop in
+    let r = c .before .before .before .before .before .line-at .result in
+    going-refused (a .text .now) (l .progress) (l .rows) (l .at) (l .line) (l .inv .0) (c .before .before .before .before .before .before .before .loop-test .taken) (r .number) (r .next) (r .progress) (c .before .before .before .before .before .line-at .last .1 .1 .1 .0)
+    (c .before .if1 .taken) (c .before .before .before .before .before .line-at .ensures)
+
+add-line : tie.Need-add-line Inv-loop μ-loop
+add-line c =
+    let g = c .before .before .before .before .before .before .before .before .loop .inv .0 in
+    omega (arith, g .lines, g .within, c .before .before .before .before .before .before .before .before .before .before .before .before .pre .0)
+
+loop-less : tie.Need-loop-less Inv-loop μ-loop
+loop-less c =
+    let a = c .before .before .before .before .before .before .before .before .before .before .before .before .args in
+    let l = c .before .before .before .before .before .before .before .before .loop in
+    let r = c .before .before .before .before .before .line-at .result in
+    let f = subst (λ (n : ℕ). ToldPart (problemLine (partIn (a .text .now) (l .progress) (l .rows))) (a .text .now) (l .at) (c .before .before .before .before .before .line-at .last .1 .1 .1 .0) n (r .next) (r .progress)) (c .before .if1 .left) (c .before .before .before .before .before .line-at .ensures) in
+    omega (arith, f .found .after, f .found .within)
+
+loop-again : tie.Need-loop-again Inv-loop μ-loop
+loop-again c =
+    let a = c .before .before .before .before .before .before .before .before .before .before .before .before .args in
+    let l = c .before .before .before .before .before .before .before .before .loop in
+    let r = c .before .before .before .before .before .line-at .result in
+    let f = subst (λ (n : ℕ). ToldPart (problemLine (partIn (a .text .now) (l .progress) (l .rows))) (a .text .now) (l .at) (c .before .before .before .before .before .line-at .last .1 .1 .1 .0) n (r .next) (r .progress)) (c .before .if1 .left) (c .before .before .before .before .before .line-at .ensures) in
+    (going-on (a .text .now) (l .progress) (l .rows) (l .at) (l .line) (l .inv .0) (c .before .before .before .before .before .before .before .loop-test .taken) (r .next) (r .progress) (c .before .before .before .before .before .line-at .last .1 .1 .1 .0) f, c .before .before .before .before .before .line-at .kept .1 .1 .1 .0 ∙ l .inv .1)
+
+ended-requires : tie.Need-ended-requires Inv-loop μ-loop
+ended-requires c κs = search needs
+
+same-length-2 : tie.Need-same-length-2 Inv-loop μ-loop
+same-length-2 c = c .before .before .before .loop .inv .1
+
+returns-2 : tie.Need-returns-2 Inv-loop μ-loop
+returns-2 c =
+    let a = c .before .before .before .before .before .before .before .args in
+    let l = c .before .before .before .loop in
+    rw (c .ended .ensures) (going-end (a .text .now) (l .progress) (l .rows) (l .at) (l .line) (l .inv .0) (c .before .before .loop-test .left))
+
+pub read-problem-spec : {M : Type 1} → statement M
+read-problem-spec =
+    tie.close
+    (tie.spec
+    Inv-loop
+    μ-loop
+    beginning-requires
+    loop-holds
+    line-at-requires
+    same-length
+    returns
+    add-line
+    loop-less
+    loop-again
+    ended-requires
+    same-length-2
+    returns-2)
