@@ -1,5 +1,6 @@
 // The file `lines`: derivation lines, each with the number of its line and what it is read as.
 use crate::say;
+use crate::texts;
 use text::rule_line::LineRead;
 use text::rule_line::Rule;
 ghost use Prim.Native.Nat.{_≤_, _<_};
@@ -19,15 +20,6 @@ fn say_rule(rule: Rule) {
 fn say_position(name: u32, steps: usize) {
     say::counted(b" name=", name as u64);
     say::counted(b" steps=", steps as u64);
-}
-
-// The place after the line at a place: a malformed one goes to its LF, or to the end.
-fn after_malformed(text: &[u8], at: usize) -> usize
-    requires { ⌜ at < length (now text) ⌝ }
-    ensures { λ r. ⌜ (at < r) × (r ≤ length (now (text .entry))) ⌝ }
-{
-    let end = text::line::line_end(text, at);
-    if end < text.len() { end + 1 } else { end }
 }
 
 // Prints what the line at a place is read as; the place after it.
@@ -90,7 +82,7 @@ fn one(text: &[u8], at: usize) -> usize
         }
         LineRead::Malformed => {
             say::word(b"10");
-            after_malformed(text, at)
+            texts::after_line(text, at)
         }
     }
 }

@@ -1,7 +1,6 @@
 -- `lines::each` goes from line to line: each takes a byte.
 -- Assumes nothing.
 use borrow.Author.Needs.{needs}
-use native.Mathlib.Omega.{arith}
 use Prim.Native.Nat.{_+_, _-_, _≤_}
 use lib.ListN.{length}
 use Rattle.cases.proofs.lines.each.Statement.{statement}

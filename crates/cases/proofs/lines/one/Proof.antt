@@ -80,8 +80,8 @@ slice-aggregate-word-4 c = search needs
 word-requires-4 : tie.Need-word-requires-4
 word-requires-4 c κs = search needs
 
-after-malformed-requires : tie.Need-after-malformed-requires
-after-malformed-requires c κs = search needs
+after-line-requires : tie.Need-after-line-requires
+after-line-requires c κs = search needs
 
 returns : tie.Need-returns
 returns c =
@@ -144,7 +144,7 @@ one-spec =
     enum-told
     slice-aggregate-word-4
     word-requires-4
-    after-malformed-requires
+    after-line-requires
     returns
     returns-2
     returns-3
