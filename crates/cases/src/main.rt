@@ -1,6 +1,7 @@
-// Runs headings and lines of derivations, problems and refused lines of data/ through the text crate and prints each answer.
+// Runs derivation lines, headings, problems and refused lines of data/ through the text crate and prints each answer.
 mod echo;
 mod headings;
+mod jobs;
 mod lines;
 mod problems;
 mod refused;
@@ -8,8 +9,6 @@ mod say;
 mod texts;
 
 fn main() {
-    headings::run();
     lines::run();
-    problems::run();
-    refused::run();
+    jobs::run();
 }

@@ -1,8 +1,6 @@
-// The file `refused`: texts, each with the lines that are handed back of it.
+// The lines that are handed back of a text.
 use crate::say;
-use crate::texts;
 use text::line::refused_line;
-use text::name::part;
 
 fn one(name: &[u8], text: &[u8], line: usize) {
     say::word(name);
@@ -13,7 +11,7 @@ fn one(name: &[u8], text: &[u8], line: usize) {
 }
 
 // Line 0, the first ones, and some that no text has.
-fn lines(name: &[u8], text: &[u8]) {
+pub fn lines(name: &[u8], text: &[u8]) {
     let mut line: usize = 0;
     while line < 5 {
         one(name, text, line);
@@ -21,20 +19,4 @@ fn lines(name: &[u8], text: &[u8]) {
     }
     one(name, text, 65537);
     one(name, text, 4294967297);
-}
-
-fn each(file: &[u8]) {
-    let mut at: usize = 0;
-    while at < file.len() {
-        let section = texts::section_at(file, at);
-        let name = part(file, section.name, section.named);
-        lines(name, part(file, section.start, section.size));
-        at = section.next;
-    }
-}
-
-pub fn run() {
-    let mut buffer = io::large_buffer();
-    let n = say::load(b"refused", &mut buffer);
-    each(&buffer[..n]);
 }
