@@ -2,12 +2,28 @@
 -- Assumes nothing.
 use borrow.Author.Needs.{needs}
 use native.Mathlib.Omega.{arith}
-use mathlib.Core.Path.{sym, subst, _∙_}
+use mathlib.Core.Path.{_≡_, sym, subst, _∙_}
+use mathlib.Core.Bool.{Bool}
 use borrow.Author.Tests.{not-true, not-false}
-use Rattle.text.specs.memory.Declarations.{predicateAt, ToldDeclaration}
+use Rattle.text.specs.memory.Declarations.{predicateAt, PredicateFound, ToldDeclaration}
+use Rattle.text.specs.memory.ProblemLines.{predicateFitsIn}
 use Rattle.text.proofs.ProblemPlaces.{fits-room, declared-misspelled, declared-large, declared-unfit, declared-fits}
 use Rattle.text.proofs.problem_line.declared.Statement.{statement}
 use Rattle.text.proofs.problem_line.declared.Tie as tie
+
+predicate : (c : tie.After-size)
+    → let a = c .before .before .before .before .args in
+    PredicateFound (a .text .now) (a .at) (c .size .given .0 .0) (c .size .given .0 .1 .0) (c .size .given .0 .1 .1 .0)
+predicate c =
+    let a = c .before .before .before .before .args in
+    subst (ToldDeclaration (a .text .now) (a .at)) (c .size .given .1) (c .before .before .declaration-at .ensures)
+
+-- whether it may join, as the code found
+fitting : (c : tie.After-fits2) {b : Bool} → c .fits2 .result ≡ b
+    → let s = c .before .before in
+    let a = s .before .before .before .before .args in
+    predicateFitsIn (a .text .now) (a .table) (predicateAt (a .text .now) (a .at) (s .size .given .0 .0) (s .size .given .0 .1 .0)) ≡ b
+fitting c e = sym (c .fits2 .ensures) ∙ e
 
 declaration-at-requires : tie.Need-declaration-at-requires
 declaration-at-requires c κs = search needs
@@ -16,30 +32,28 @@ enum-known-size : tie.Need-enum-known-size
 enum-known-size c = search needs
 
 fits-requires : tie.Need-fits-requires
-fits-requires c κs =
-    let a = c .before .before .before .before .before .args in
-    let f = subst (ToldDeclaration (a .text .now) (a .at)) (c .before .size .given .1) (c .before .before .before .declaration-at .ensures) in
-    omega (arith, f .short, f .found .within)
+fits-requires c κs = let f = predicate (c .before) in omega (arith, f .short, f .found .within)
 
 returns : tie.Need-returns
 returns c =
-    let a = c .before .before .before .before .before .before .before .args in
-    declared-unfit (a .text .now) (a .at) (a .table) (c .before .before .before .size .given .0 .0) (c .before .before .before .size .given .0 .1 .0) (c .before .before .before .size .given .0 .1 .1 .0)
-    (subst (ToldDeclaration (a .text .now) (a .at)) (c .before .before .before .size .given .1) (c .before .before .before .before .before .declaration-at .ensures)) (sym (c .before .fits2 .ensures) ∙ not-true _ (c .if1 .taken))
+    let s = c .before .before .before in
+    let a = s .before .before .before .before .args in
+    let g = s .size .given .0 in
+    declared-unfit (a .text .now) (a .at) (a .table) (g .0) (g .1 .0) (g .1 .1 .0) (predicate s)
+    (fitting (c .before) (not-true _ (c .if1 .taken)))
 
 cast-entered : tie.Need-cast-entered
 cast-entered c = search needs
 
 cast-entered-2 : tie.Need-cast-entered-2
-cast-entered-2 c =
-    let a = c .before .before .before .before .before .before .before .args in
-    let f = subst (ToldDeclaration (a .text .now) (a .at)) (c .before .before .before .size .given .1) (c .before .before .before .before .before .declaration-at .ensures) in
-    omega (arith, f .short, f .found .within)
+cast-entered-2 c = let f = predicate (c .before .before .before) in omega (arith, f .short, f .found .within)
 
 entered-requires : tie.Need-entered-requires
 entered-requires c κs =
-    let a = c .before .before .before .before .before .before .before .args in
-    fits-room (a .text .now) (a .table) (predicateAt (a .text .now) (a .at) (c .before .before .before .size .given .0 .0) (c .before .before .before .size .given .0 .1 .0)) (sym (c .before .fits2 .ensures) ∙ not-false _ (c .if1 .left))
+    let s = c .before .before .before in
+    let a = s .before .before .before .before .args in
+    fits-room (a .text .now) (a .table) (predicateAt (a .text .now) (a .at) (s .size .given .0 .0) (s .size .given .0 .1 .0))
+    (fitting (c .before) (not-false _ (c .if1 .left)))
 
 enum-told : tie.Need-enum-told
 enum-told c = search needs
@@ -49,20 +63,24 @@ enum-told-2 c = search needs
 
 returns-2 : tie.Need-returns-2
 returns-2 c =
-    let a = c .before .before .before .before .before .before .before .before .args in
+    let s = c .before .before .before .before in
+    let a = s .before .before .before .before .args in
+    let g = s .size .given .0 in
     rw (c .entered .ensures .0)
-    (declared-fits (a .text .now) (a .at) (a .table) (c .before .before .before .before .size .given .0 .0) (c .before .before .before .before .size .given .0 .1 .0) (c .before .before .before .before .size .given .0 .1 .1 .0)
-    (subst (ToldDeclaration (a .text .now) (a .at)) (c .before .before .before .before .size .given .1) (c .before .before .before .before .before .before .declaration-at .ensures)) (sym (c .before .before .fits2 .ensures) ∙ not-false _ (c .before .if1 .left)) (c .entered .ensures .1))
+    (declared-fits (a .text .now) (a .at) (a .table) (g .0) (g .1 .0) (g .1 .1 .0) (predicate s)
+    (fitting (c .before .before) (not-false _ (c .before .if1 .left))) (c .entered .ensures .1))
 
 returns-3 : tie.Need-returns-3
 returns-3 c =
     let a = c .before .before .before .before .args in
-    declared-large (a .text .now) (a .at) (a .table) (subst (ToldDeclaration (a .text .now) (a .at)) (c .enum-told .given .1) (c .before .before .declaration-at .ensures))
+    declared-large (a .text .now) (a .at) (a .table)
+    (subst (ToldDeclaration (a .text .now) (a .at)) (c .enum-told .given .1) (c .before .before .declaration-at .ensures))
 
 returns-4 : tie.Need-returns-4
 returns-4 c =
     let a = c .before .before .before .before .args in
-    declared-misspelled (a .text .now) (a .at) (a .table) (subst (ToldDeclaration (a .text .now) (a .at)) (c .enum-told2 .given .1) (c .before .before .declaration-at .ensures))
+    declared-misspelled (a .text .now) (a .at) (a .table)
+    (subst (ToldDeclaration (a .text .now) (a .at)) (c .enum-told2 .given .1) (c .before .before .declaration-at .ensures))
 
 pub declared-spec : {M : Type 1} → statement M
 declared-spec =

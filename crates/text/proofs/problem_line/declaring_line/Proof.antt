@@ -20,14 +20,15 @@ add-input-line c = search needs
 
 input-line-requires : tie.Need-input-line-requires
 input-line-requires c κs =
-    let a = c .before .before .before .before .args in
-    let w = word-found (a .text .now) (a .at) (bytes "input=") (c .before .before .before .before .pre .0) (sym (c .before .begins-at .ensures) ∙ c .if1 .taken) in
-    (omega (arith, w .within), c .before .before .before .before .pre .1, c .before .before .before .before .pre .3)
+    let entry = c .before .before .before .before in
+    let w = word-found (entry .args .text .now) (entry .args .at) (bytes "input=") (entry .pre .0) (sym (c .before .begins-at .ensures) ∙ c .if1 .taken) in
+    (omega (arith, w .within), entry .pre .1, entry .pre .3)
 
 returns : tie.Need-returns
 returns c =
-    let a = c .before .before .before .before .before .args in
-    let w = word-found (a .text .now) (a .at) (bytes "input=") (c .before .before .before .before .before .pre .0) (sym (c .before .before .begins-at .ensures) ∙ c .before .if1 .taken) in
+    let entry = c .before .before .before .before .before in
+    let a = entry .args in
+    let w = word-found (a .text .now) (a .at) (bytes "input=") (entry .pre .0) (sym (c .before .before .begins-at .ensures) ∙ c .before .if1 .taken) in
     declaring-input (a .text .now) (a .at) (a .progress) (c .input-line .result) w (c .input-line .ensures)
 
 output-line-requires : tie.Need-output-line-requires
@@ -36,7 +37,8 @@ output-line-requires c κs = search needs
 returns-2 : tie.Need-returns-2
 returns-2 c =
     let a = c .before .before .before .before .before .args in
-    declaring-output (a .text .now) (a .at) (a .progress) (c .output-line .result) (sym (c .before .before .begins-at .ensures) ∙ c .before .if1 .left) (c .output-line .ensures)
+    declaring-output (a .text .now) (a .at) (a .progress) (c .output-line .result)
+    (sym (c .before .before .begins-at .ensures) ∙ c .before .if1 .left) (c .output-line .ensures)
 
 pub declaring-line-spec : {M : Type 1} → statement M
 declaring-line-spec =

@@ -25,8 +25,11 @@ find-requires c κs = search needs
 
 returns-4 : tie.Need-returns-4
 returns-4 c =
-    let a = c .before .before .before .before .before .before .before .args in
-    fits-else (a .text .now) (a .table) (a .start) (a .size) (a .arity) (c .before .before .before .before .before .before .before .pre) (c .before .before .before .before .before .if1 .left) (c .before .before .before .before .if2 .left) (c .before .before .if3 .left) (c .before .find .result) (c .before .find .ensures)
+    let third = c .before .before in
+    let entry = third .before .before .before .before .before in
+    let a = entry .args in
+    fits-else (a .text .now) (a .table) (a .start) (a .size) (a .arity) (entry .pre)
+    (third .before .before .before .if1 .left) (third .before .before .if2 .left) (third .if3 .left) (c .before .find .result) (c .before .find .ensures)
 
 pub fits-spec : {M : Type 1} → statement M
 fits-spec = tie.close (tie.spec returns returns-2 returns-3 find-requires returns-4)

@@ -13,13 +13,16 @@ failed-requires c κs = search needs
 
 returns : tie.Need-returns
 returns c =
-    let a = c .before .before .before .before .before .before .args in
-    rw (c .failed .ensures) (input-failed (a .text .now) (a .at) (a .progress) (c .before .before .before .declared .result) (c .before .before .before .declared .ensures) (c .before .if1 .taken))
+    let d = c .before .before .before in
+    let a = d .before .before .before .args in
+    rw (c .failed .ensures) (input-failed (a .text .now) (a .at) (a .progress) (d .declared .result) (d .declared .ensures) (c .before .if1 .taken))
 
 returns-2 : tie.Need-returns-2
 returns-2 c =
-    let a = c .before .before .before .before .before .before .args in
-    input-line (a .text .now) (a .at) (a .progress) (c .before .before .before .declared .result) (c .before .before .before .declared .ensures) (c .before .if1 .left) (c .before .before .before .before .before .before .pre .2)
+    let d = c .before .before .before in
+    let entry = d .before .before .before in
+    let a = entry .args in
+    input-line (a .text .now) (a .at) (a .progress) (d .declared .result) (d .declared .ensures) (c .before .if1 .left) (entry .pre .2)
 
 pub input-line-spec : {M : Type 1} → statement M
 input-line-spec = tie.close (tie.spec declared-requires failed-requires returns returns-2)

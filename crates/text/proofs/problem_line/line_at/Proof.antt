@@ -31,13 +31,17 @@ output-line-requires c κs = search needs
 
 returns : tie.Need-returns
 returns c =
-    let a = c .before .before .before .before .before .args in
-    line-start (a .text .now) (a .at) (a .progress) (c .domain-line .result) (a .rows .now) (c .before .before .before .before .before .pre .2) (c .before .enum-told .given .1) (c .domain-line .ensures)
+    let entry = c .before .before .before .before .before in
+    let a = entry .args in
+    line-start (a .text .now) (a .at) (a .progress) (c .domain-line .result) (a .rows .now) (entry .pre .2)
+    (c .before .enum-told .given .1) (c .domain-line .ensures)
 
 returns-2 : tie.Need-returns-2
 returns-2 c =
-    let a = c .before .before .before .before .before .args in
-    line-declaring (a .text .now) (a .at) (a .progress) (c .declaring-line .result) (a .rows .now) (c .before .before .before .before .before .pre .2) (c .before .enum-told2 .given .1) (c .declaring-line .ensures)
+    let entry = c .before .before .before .before .before in
+    let a = entry .args in
+    line-declaring (a .text .now) (a .at) (a .progress) (c .declaring-line .result) (a .rows .now) (entry .pre .2)
+    (c .before .enum-told2 .given .1) (c .declaring-line .ensures)
 
 same-length : tie.Need-same-length
 same-length c = search needs
@@ -47,8 +51,10 @@ returns-3 c = search needs
 
 returns-4 : tie.Need-returns-4
 returns-4 c =
-    let a = c .before .before .before .before .before .args in
-    line-closing (a .text .now) (a .at) (a .progress) (c .output-line .result) (a .rows .now) (c .before .before .before .before .before .pre .2) (c .before .enum-told4 .given .1) (c .output-line .ensures)
+    let entry = c .before .before .before .before .before in
+    let a = entry .args in
+    line-closing (a .text .now) (a .at) (a .progress) (c .output-line .result) (a .rows .now) (entry .pre .2)
+    (c .before .enum-told4 .given .1) (c .output-line .ensures)
 
 pub line-at-spec : {M : Type 1} → statement M
 line-at-spec =

@@ -2,13 +2,23 @@
 -- Assumes nothing.
 use borrow.Author.Needs.{needs}
 use native.Mathlib.Omega.{arith}
+use Prim.Native.Nat.{_+_}
 use mathlib.Core.Path.{sym, _∙_}
 use borrow.Author.Tests.{not-true, not-false}
 use Rattle.text.specs.Bytes.{bytes}
+use Rattle.text.specs.memory.Found.{WordFound}
 use Rattle.text.proofs.Found.{word-found}
 use Rattle.text.proofs.ProblemPlaces.{output-missing, output-failed, output-line}
 use Rattle.text.proofs.problem_line.output_line.Statement.{statement}
 use Rattle.text.proofs.problem_line.output_line.Tie as tie
+
+word : (c : tie.After-table)
+    → let a = c .before .before .before .before .before .args in
+    WordFound (bytes "output=") (a .text .now) (a .at) (a .at + 7)
+word c =
+    let entry = c .before .before .before .before .before in
+    word-found (entry .args .text .now) (entry .args .at) (bytes "output=") (entry .pre .0)
+    (sym (c .before .before .begins-at .ensures) ∙ not-false _ (c .before .if1 .left))
 
 slice-aggregate-begins-at : tie.Need-slice-aggregate-begins-at
 slice-aggregate-begins-at c = search needs
@@ -22,34 +32,33 @@ failed-requires c κs = search needs
 returns : tie.Need-returns
 returns c =
     let a = c .before .before .before .before .before .args in
-    rw (c .failed .ensures) (output-missing (a .text .now) (a .at) (a .progress) (sym (c .before .before .begins-at .ensures) ∙ not-true _ (c .before .if1 .taken)))
+    rw (c .failed .ensures)
+    (output-missing (a .text .now) (a .at) (a .progress) (sym (c .before .before .begins-at .ensures) ∙ not-true _ (c .before .if1 .taken)))
 
 add-declared : tie.Need-add-declared
 add-declared c = search needs
 
 declared-requires : tie.Need-declared-requires
-declared-requires c κs =
-    let a = c .before .before .before .before .before .args in
-    let w = word-found (a .text .now) (a .at) (bytes "output=") (c .before .before .before .before .before .pre .0) (sym (c .before .before .begins-at .ensures) ∙ not-false _ (c .before .if1 .left)) in
-    omega (arith, w .within)
+declared-requires c κs = omega (arith, word c .within)
 
 failed-requires-2 : tie.Need-failed-requires-2
 failed-requires-2 c κs = search needs
 
 returns-2 : tie.Need-returns-2
 returns-2 c =
-    let a = c .before .before .before .before .before .before .before .before .before .args in
-    let w = word-found (a .text .now) (a .at) (bytes "output=") (c .before .before .before .before .before .before .before .before .before .pre .0) (sym (c .before .before .before .before .before .before .begins-at .ensures) ∙ not-false _ (c .before .before .before .before .before .if1 .left)) in
-    rw (c .failed2 .ensures) (output-failed (a .text .now) (a .at) (a .progress) w (c .before .before .before .declared .result) (c .before .before .before .declared .ensures) (c .before .if2 .taken))
+    let d = c .before .before .before in
+    let a = d .before .before .before .before .before .before .args in
+    rw (c .failed2 .ensures)
+    (output-failed (a .text .now) (a .at) (a .progress) (word (d .before)) (d .declared .result) (d .declared .ensures) (c .before .if2 .taken))
 
 add-table : tie.Need-add-table
 add-table c = search needs
 
 returns-3 : tie.Need-returns-3
 returns-3 c =
-    let a = c .before .before .before .before .before .before .before .before .before .before .args in
-    let w = word-found (a .text .now) (a .at) (bytes "output=") (c .before .before .before .before .before .before .before .before .before .before .pre .0) (sym (c .before .before .before .before .before .before .before .begins-at .ensures) ∙ not-false _ (c .before .before .before .before .before .before .if1 .left)) in
-    output-line (a .text .now) (a .at) (a .progress) w (c .before .before .before .before .declared .result) (c .before .before .before .before .declared .ensures) (c .before .before .if2 .left)
+    let d = c .before .before .before .before in
+    let a = d .before .before .before .before .before .before .args in
+    output-line (a .text .now) (a .at) (a .progress) (word (d .before)) (d .declared .result) (d .declared .ensures) (c .before .before .if2 .left)
 
 pub output-line-spec : {M : Type 1} → statement M
 output-line-spec =

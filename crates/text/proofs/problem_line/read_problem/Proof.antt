@@ -6,7 +6,7 @@ use Prim.Native.Nat.{ℕ, _-_}
 use mathlib.Core.Path.{_≡_, refl, subst, _∙_}
 use lib.ListN.{length}
 use Rattle.text.specs.Problem.{problemLine}
-use Rattle.text.specs.memory.ProblemLines.{partIn, ToldPart}
+use Rattle.text.specs.memory.ProblemLines.{partIn, PartFound, ToldPart}
 use Rattle.text.proofs.ProblemLoop.{ProblemGoing, going-first, going-refused, going-on, going-end}
 use Rattle.text.proofs.problem_line.read_problem.Statement.{statement}
 use Rattle.text.proofs.problem_line.read_problem.Tie as tie
@@ -16,6 +16,19 @@ Inv-loop text rows₀ progress₀ at₀ line₀ rows progress at line = ProblemG
 
 abbrev μ-loop : tie.MeasureT-loop
 μ-loop text rows₀ progress₀ at₀ line₀ rows progress at line = length text - at
+
+-- a line that is not refused
+line-read : (c : tie.After-line-at Inv-loop μ-loop) → c .line-at .result .number ≡ 0
+    → let a = c .before .before .before .before .before .before .before .args in
+    let l = c .before .before .before .loop in
+    let r = c .line-at .result in
+    PartFound (problemLine (partIn (a .text .now) (l .progress) (l .rows))) (a .text .now) (l .at) (c .line-at .last .1 .1 .1 .0) (r .next) (r .progress)
+line-read c e =
+    let a = c .before .before .before .before .before .before .before .args in
+    let l = c .before .before .before .loop in
+    let r = c .line-at .result in
+    subst (λ (n : ℕ). ToldPart (problemLine (partIn (a .text .now) (l .progress) (l .rows))) (a .text .now) (l .at) (c .line-at .last .1 .1 .1 .0) n
+    (r .next) (r .progress)) e (c .line-at .ensures)
 
 beginning-requires : tie.Need-beginning-requires Inv-loop μ-loop
 beginning-requires c κs = search needs
@@ -27,40 +40,44 @@ loop-holds c =
 
 line-at-requires : tie.Need-line-at-requires Inv-loop μ-loop
 line-at-requires c κs =
-    let g = c .before .before .loop .inv .0 in
-    (g .within, c .before .before .before .before .before .before .pre .0, g .standing, omega (arith, c .before .before .loop .inv .1, c .before .before .before .before .before .before .pre .1))
+    let l = c .before .before .loop in
+    let pre = c .before .before .before .before .before .before .pre in
+    (l .inv .0 .within, pre .0, l .inv .0 .standing, omega (arith, l .inv .1, pre .1))
 
 same-length : tie.Need-same-length Inv-loop μ-loop
-same-length c = c .before .before .before .before .before .line-at .kept .1 .1 .1 .0 ∙ c .before .before .before .before .before .before .before .before .loop .inv .1
+same-length c =
+    let read = c .before .before .before .before .before in
+    read .line-at .kept .1 .1 .1 .0 ∙ read .before .before .before .loop .inv .1
 
 returns : tie.Need-returns Inv-loop μ-loop
 returns c =
-    let a = c .before .before .before .before .before .before .before .before .before .before .before .before .args in
-    let l = c .before .before .before .before .before .before .before .before .loop in
-    let r = c .before .before .before .before .before .line-at .result in
-    going-refused (a .text .now) (l .progress) (l .rows) (l .at) (l .line) (l .inv .0) (c .before .before .before .before .before .before .before .loop-test .taken) (r .number) (r .next) (r .progress) (c .before .before .before .before .before .line-at .last .1 .1 .1 .0)
-    (c .before .if1 .taken) (c .before .before .before .before .before .line-at .ensures)
+    let read = c .before .before .before .before .before in
+    let l = read .before .before .before .loop in
+    let a = read .before .before .before .before .before .before .before .args in
+    let r = read .line-at .result in
+    going-refused (a .text .now) (l .progress) (l .rows) (l .at) (l .line) (l .inv .0) (read .before .before .loop-test .taken)
+    (r .number) (r .next) (r .progress) (read .line-at .last .1 .1 .1 .0) (c .before .if1 .taken) (read .line-at .ensures)
 
 add-line : tie.Need-add-line Inv-loop μ-loop
 add-line c =
-    let g = c .before .before .before .before .before .before .before .before .loop .inv .0 in
-    omega (arith, g .lines, g .within, c .before .before .before .before .before .before .before .before .before .before .before .before .pre .0)
+    let going = c .before .before .before .before .before .before .before .before .loop .inv .0 in
+    omega (arith, going .lines, going .within, c .before .before .before .before .before .before .before .before .before .before .before .before .pre .0)
 
 loop-less : tie.Need-loop-less Inv-loop μ-loop
 loop-less c =
-    let a = c .before .before .before .before .before .before .before .before .before .before .before .before .args in
-    let l = c .before .before .before .before .before .before .before .before .loop in
-    let r = c .before .before .before .before .before .line-at .result in
-    let f = subst (λ (n : ℕ). ToldPart (problemLine (partIn (a .text .now) (l .progress) (l .rows))) (a .text .now) (l .at) (c .before .before .before .before .before .line-at .last .1 .1 .1 .0) n (r .next) (r .progress)) (c .before .if1 .left) (c .before .before .before .before .before .line-at .ensures) in
+    let f = line-read (c .before .before .before .before .before) (c .before .if1 .left) in
     omega (arith, f .found .after, f .found .within)
 
 loop-again : tie.Need-loop-again Inv-loop μ-loop
 loop-again c =
-    let a = c .before .before .before .before .before .before .before .before .before .before .before .before .args in
-    let l = c .before .before .before .before .before .before .before .before .loop in
-    let r = c .before .before .before .before .before .line-at .result in
-    let f = subst (λ (n : ℕ). ToldPart (problemLine (partIn (a .text .now) (l .progress) (l .rows))) (a .text .now) (l .at) (c .before .before .before .before .before .line-at .last .1 .1 .1 .0) n (r .next) (r .progress)) (c .before .if1 .left) (c .before .before .before .before .before .line-at .ensures) in
-    (going-on (a .text .now) (l .progress) (l .rows) (l .at) (l .line) (l .inv .0) (c .before .before .before .before .before .before .before .loop-test .taken) (r .next) (r .progress) (c .before .before .before .before .before .line-at .last .1 .1 .1 .0) f, c .before .before .before .before .before .line-at .kept .1 .1 .1 .0 ∙ l .inv .1)
+    let read = c .before .before .before .before .before in
+    let l = read .before .before .before .loop in
+    let a = read .before .before .before .before .before .before .before .args in
+    let r = read .line-at .result in (
+      going-on (a .text .now) (l .progress) (l .rows) (l .at) (l .line) (l .inv .0) (read .before .before .loop-test .taken)
+          (r .next) (r .progress) (read .line-at .last .1 .1 .1 .0) (line-read read (c .before .if1 .left)),
+      read .line-at .kept .1 .1 .1 .0 ∙ l .inv .1,
+    )
 
 ended-requires : tie.Need-ended-requires Inv-loop μ-loop
 ended-requires c κs = search needs

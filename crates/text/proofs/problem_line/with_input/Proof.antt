@@ -23,7 +23,9 @@ add-t9 : tie.Need-add-t9
 add-t9 c = search needs
 
 returns : tie.Need-returns
-returns c = (rw (c .before .before .before .before .before .with-rows .ensures .0, c .before .tuples .ensures .0), c .before .before .before .before .before .with-rows .ensures .1)
+returns c =
+    let table = c .before .before .before .before .before .with-rows in
+    (rw (table .ensures .0, c .before .tuples .ensures .0), table .ensures .1)
 
 pub with-input-spec : {M : Type 1} → statement M
 with-input-spec =
