@@ -34,3 +34,4 @@ pub mod Deciding
 pub mod Decided
 pub mod Admitted
 pub mod Rewriting
+pub mod Openings

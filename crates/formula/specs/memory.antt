@@ -21,3 +21,4 @@ pub mod FormulaReads
 pub mod Deciding
 pub mod Admitted
 pub mod Rewriting
+pub mod Openings

@@ -10,6 +10,7 @@ pub mod head;
 pub mod instance;
 pub mod leaf;
 pub mod name_table;
+pub mod opening;
 pub mod print;
 pub mod read;
 pub mod rewrite;

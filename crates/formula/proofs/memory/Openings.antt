@@ -1,0 +1,96 @@
+-- How a formula opens: the sign that the text begins with decides how the definition reads it.
+-- Assumes nothing.
+use Prim.Native.Nat.{ℕ, _+_, _≤_, _<_}
+use native.Mathlib.Omega.{arith}
+use mathlib.Core.Path.{_≡_, refl, sym, ap, ap₂, _∙_}
+use mathlib.Core.List.{List, [], _∷_, _++_}
+use mathlib.Core.Bool.{Bool, true, false, cond, false≢true}
+use lib.Dec.{eqb}
+use lib.ListN.{length, drop}
+use lib.Seq.{drop-drop}
+use borrow.Author.Tests.{eqb-true}
+use Rattle.text.specs.Bytes.{Bytes, bytes, begins}
+use Rattle.text.specs.Reading.{Reader, give, _⇒_, oneOf}
+use Rattle.text.proofs.Laws.{and-left, and-right, Each}
+use Rattle.logic.specs.Formula.{all, any, implies, impliedBy, equivalent, Formula, truth}
+use Rattle.logic.specs.Text.{truthText}
+use Rattle.logic.specs.Reading.{readAtom, readEquality, readNegation, readTwo, readJunction, readQuantifier, formulaKinds}
+use Rattle.formula.specs.memory.FormulaReads.{readLeaf}
+use Rattle.formula.specs.memory.Openings.{pickOpening, bracketOpening, openingOf, readKind, Opens, ToldOpening}
+use Rattle.formula.specs.declared.opening.Opening.{Opening}
+use Rattle.formula.proofs.memory.Lists.{begins-within}
+
+begins-split : (w s : Bytes) → begins w s ≡ true → s ≡ w ++ drop (length w) s
+begins-split [] s e = refl
+begins-split (a ∷ w) [] e = absurd (false≢true e)
+begins-split (a ∷ w) (b ∷ s) e =
+    ap₂ (λ (k : ℕ) (ks : Bytes). k ∷ ks) (sym (eqb-true a b (and-left (eqb a b) _ e))) (begins-split w s (and-right (eqb a b) _ e))
+
+-- by the first word that the text begins with
+module _ {A : Type 0} (last : Reader A) (s : Bytes) where
+  -- it begins with none of them
+  oneOf-none : (kinds : List (Bytes × Reader A)) → Each (λ k. begins (k .0) s ≡ false) kinds → oneOf kinds last s ≡ last s
+  unfolding oneOf
+  oneOf-none [] none = refl
+  oneOf-none (k ∷ kinds) none = rw (none .0) (oneOf-none kinds (none .1))
+
+  -- nor with one of those that stand behind others
+  oneOf-first : (kinds others : List (Bytes × Reader A)) → oneOf others last s ≡ last s → oneOf (kinds ++ others) last s ≡ oneOf kinds last s
+  unfolding oneOf
+  oneOf-first [] others e = e
+  oneOf-first (k ∷ kinds) others e = pick (begins (k .0) s) (oneOf-first kinds others e)
+    where
+      pick : (b : Bool) → oneOf (kinds ++ others) last s ≡ oneOf kinds last s
+          → cond b (λ t. k .1 (drop (length (k .0)) t)) (oneOf (kinds ++ others) last) s ≡ cond b (λ t. k .1 (drop (length (k .0)) t)) (oneOf kinds last) s
+      pick true e = refl
+      pick false e = e
+
+-- formulas with formulas in them
+abbrev signKinds : Reader Formula → List (Bytes × Reader Formula)
+signKinds r =
+    bytes "~" ⇒ readNegation r
+    ∷ bytes "&(" ⇒ readJunction r all
+    ∷ bytes "|(" ⇒ readJunction r any
+    ∷ bytes "=>(" ⇒ readTwo r implies
+    ∷ bytes "<=(" ⇒ readTwo r impliedBy
+    ∷ bytes "<=>(" ⇒ readTwo r equivalent
+    ∷ bytes "!" ⇒ readQuantifier r all
+    ∷ bytes "?" ⇒ readQuantifier r any
+    ∷ []
+
+leaf-kind : (r : Reader Formula) (s : Bytes) → Each (λ k. begins (k .0) s ≡ false) (signKinds r) → readKind r s ≡ readLeaf s
+unfolding formulaKinds readLeaf
+leaf-kind r s none =
+    oneOf-first readAtom s (truthText true ⇒ give (truth true) ∷ truthText false ⇒ give (truth false) ∷ bytes "=(" ⇒ readEquality ∷ []) (signKinds r)
+    (oneOf-none readAtom s (signKinds r) none)
+
+module _ (text : Bytes) (at : ℕ) (h : at ≤ length text) where
+  abbrev s : Bytes
+  s = drop at text
+
+  -- a sign stands there
+  opens : (w : Bytes) (other : Reader Formula → Reader Formula) → 0 < length w → begins w s ≡ true
+      → ((r : Reader Formula) (u : Bytes) → readKind r (w ++ u) ≡ other r u) → Opens text at other (at + length w)
+  opens w other some e k =
+      record {
+        is = λ r. ap (readKind r) (begins-split w s e) ∙ k r (drop (length w) s) ∙ ap (other r) (drop-drop (length w) at text);
+        after = omega arith;
+        within = begins-within w text at h e;
+      }
+
+  pick : (b : Bool) (x y : Opening) → (b ≡ true → ToldOpening text at x) → (b ≡ false → ToldOpening text at y) → ToldOpening text at (pickOpening b x y)
+  pick true x y k l = k refl
+  pick false x y k l = l refl
+
+  pub told-opening : ToldOpening text at (openingOf at s)
+  unfolding openingOf bracketOpening oneOf formulaKinds readLeaf
+  told-opening =
+      pick (begins (bytes "~") s) _ _ (λ e. opens (bytes "~") _ (omega arith) e (λ r u. refl)) λ a.
+      pick (begins (bytes "!") s) _ _ (λ e. opens (bytes "!") _ (omega arith) e (λ r u. refl)) λ b.
+      pick (begins (bytes "?") s) _ _ (λ e. opens (bytes "?") _ (omega arith) e (λ r u. refl)) λ c.
+      pick (begins (bytes "&(") s) _ _ (λ e. opens (bytes "&(") _ (omega arith) e (λ r u. refl)) λ d.
+      pick (begins (bytes "|(") s) _ _ (λ e. opens (bytes "|(") _ (omega arith) e (λ r u. refl)) λ f.
+      pick (begins (bytes "=>(") s) _ _ (λ e. opens (bytes "=>(") _ (omega arith) e (λ r u. refl)) λ g.
+      pick (begins (bytes "<=(") s) _ _ (λ e. opens (bytes "<=(") _ (omega arith) e (λ r u. refl)) λ i.
+      pick (begins (bytes "<=>(") s) _ _ (λ e. opens (bytes "<=>(") _ (omega arith) e (λ r u. refl)) λ j.
+      λ r. leaf-kind r s (a, (d, (f, (g, (i, (j, (b, (c, tt))))))))
