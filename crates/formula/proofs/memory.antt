@@ -35,3 +35,7 @@ pub mod Decided
 pub mod Admitted
 pub mod Rewriting
 pub mod Openings
+pub mod PartReads
+pub mod Connectives
+pub mod Quantifiers
+pub mod Levels

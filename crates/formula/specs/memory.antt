@@ -22,3 +22,4 @@ pub mod Deciding
 pub mod Admitted
 pub mod Rewriting
 pub mod Openings
+pub mod PartReads

@@ -11,6 +11,7 @@ pub mod instance;
 pub mod leaf;
 pub mod name_table;
 pub mod opening;
+pub mod part_list;
 pub mod print;
 pub mod read;
 pub mod rewrite;

@@ -244,7 +244,7 @@ length-termWords : (ix : Name → ℕ) (ts : List Term) → length (termWords ix
 length-termWords ix [] = refl
 length-termWords ix (t ∷ ts) = ap suc (length-termWords ix ts)
 
-termWord-goes : (t : Term) (ix jx : Name → ℕ) → Each (λ x. ix x ≡ jx x) (termVariables t) → termWord ix t ≡ termWord jx t
+pub termWord-goes : (t : Term) (ix jx : Name → ℕ) → Each (λ x. ix x ≡ jx x) (termVariables t) → termWord ix t ≡ termWord jx t
 termWord-goes (element v) ix jx same = refl
 termWord-goes (variable x) ix jx same = rw (same .0)
 

@@ -13,7 +13,7 @@ use Rattle.text.specs.Problem.{Name}
 use Rattle.logic.specs.Formula.{Term, element, variable, Terms, noTerms, term, termCount, Side, all, any, Connective, negation, implies, impliedBy, equivalent, junction}
 use Rattle.logic.specs.Formula.{Formula, truth, atom, equal, connective, quantifier, Formulas, noParts, part, size, sizes}
 use Rattle.formula.specs.memory.Kinds.{kindOf, kindBy, partCount, skip}
-use Rattle.formula.specs.memory.Words.{truthWord, connectiveTag, quantifierTag, partTotal, termWord, termWords, words}
+use Rattle.formula.specs.memory.Words.{truthWord, connectiveTag, quantifierTag, partTotal, termWord, termWords, words, allWords}
 use Rattle.formula.specs.memory.Stored.{afterFirst}
 use Rattle.formula.specs.declared.word.Sign.{Sign}
 use Rattle.formula.specs.declared.word.Sign.the-variants as sign
@@ -82,20 +82,27 @@ length-termWords : (variableIndex : Name → ℕ) (ts : Terms) → length (termW
 length-termWords variableIndex noTerms = refl
 length-termWords variableIndex (term t ts) = ap suc (length-termWords variableIndex ts)
 
-module _ (N : Naming) where
+module _ (variableIndex predicateIndex : Name → ℕ) where
   mutual
     unfolding words size
 
-    pub length-words : (f : Formula) → length (wordsIn N f) ≡ size f
-    length-words (truth b) = refl
-    length-words (atom p ts) = ap suc (length-termWords (N .variableIndex) ts)
-    length-words (equal s t) = refl
-    length-words (connective o fs) = ap suc (length-allWords fs)
-    length-words (quantifier c x g f) = rw (length-append, length-words g, length-words f)
+    pub words-size : (f : Formula) → length (words variableIndex predicateIndex f) ≡ size f
+    words-size (truth b) = refl
+    words-size (atom p ts) = ap suc (length-termWords variableIndex ts)
+    words-size (equal s t) = refl
+    words-size (connective o fs) = ap suc (allWords-sizes fs)
+    words-size (quantifier c x g f) = rw (length-append, words-size g, words-size f)
 
-    pub length-allWords : (fs : Formulas) → length (allWordsIn N fs) ≡ sizes fs
-    length-allWords noParts = refl
-    length-allWords (part f fs) = rw (length-append, length-words f, length-allWords fs)
+    pub allWords-sizes : (fs : Formulas) → length (allWords variableIndex predicateIndex fs) ≡ sizes fs
+    allWords-sizes noParts = refl
+    allWords-sizes (part f fs) = rw (length-append, words-size f, allWords-sizes fs)
+
+module _ (N : Naming) where
+  pub length-words : (f : Formula) → length (wordsIn N f) ≡ size f
+  length-words f = words-size (N .variableIndex) (N .predicateIndex) f
+
+  pub length-allWords : (fs : Formulas) → length (allWordsIn N fs) ≡ sizes fs
+  length-allWords fs = allWords-sizes (N .variableIndex) (N .predicateIndex) fs
 
 -- Whole formulas are passed over whole.
 

@@ -1,5 +1,5 @@
 -- What the code tells of a formula at a place of the theory's text.
-use Prim.Native.Nat.{ℕ, _+_, _≤_}
+use Prim.Native.Nat.{ℕ, _+_, _≤_, _<_}
 use mathlib.Core.Path.{_≡_}
 use mathlib.Core.List.{List, [], _∷_}
 use mathlib.Core.Bool.{true, false}
@@ -33,6 +33,11 @@ abbrev pub Told : Reader Formula → Setting → ℕ → Memory → ℕ → Read
 Told reader s at old to (read.Done next extent facts) new = Found reader s at old to next extent facts new
 Told reader s at old to read.Malformed new = reader (drop at (s .text)) ≡ refused 5
 Told reader s at old to read.Deep new = reader (drop at (s .text)) ≡ refused 6
+
+-- what is read behind a sign, told of every reader that reads the sign too
+abbrev pub ToldBehind : Reader Formula → Setting → ℕ → Memory → ℕ → Read → Memory → Type 0
+ToldBehind other s at old to r new =
+    (reader : Reader Formula) (sign : ℕ) → reader (drop sign (s .text)) ≡ other (drop at (s .text)) → sign < at → Told reader s sign old to r new
 
 -- a formula with no formula in it
 unfoldable pub readLeaf : Reader Formula
