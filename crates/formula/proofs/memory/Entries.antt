@@ -1,11 +1,11 @@
 -- What reading leaves in memory, put together: what was entered before keeps its words when more is entered behind it, since no index changes.
 -- Assumes nothing.
-use Prim.Native.Nat.{ℕ, suc, _+_, _*_, _≤_, _<_}
+use Prim.Native.Nat.{ℕ, suc, _+_, _*_, _<_}
 use native.Mathlib.Numerals.{add-one}
 use native.Mathlib.Omega.{arith}
-use mathlib.Core.Path.{_≡_, refl, sym, ap, ap₂, _∙_}
+use mathlib.Core.Path.{_≡_, refl, sym, ap, _∙_}
 use mathlib.Core.List.{List, [], _∷_, _++_}
-use mathlib.Core.Bool.{Bool, true, false, _&&_}
+use mathlib.Core.Bool.{Bool, true, _&&_}
 use lib.ListN.{length, set}
 use lib.Seq.{sets, set-comm}
 use Rattle.text.specs.Bytes.{Bytes}
@@ -33,6 +33,13 @@ pub each-right : {A : Type 0} (Q : A → Type 0) (before after : List A) → Eac
 each-right Q [] after q = q
 each-right Q (a ∷ before) after q = each-right Q before after (q .1)
 
+-- an index does not change when other variables are listed
+pub index-kept : (variables more names : List Name)
+    → Each (λ x. indexIn (extendedBy names variables) x ≡ indexIn (extendedBy (extendedBy names variables) more) x) variables
+index-kept variables more names =
+    each-weaken (λ x. settled (extendedBy names variables) x ≡ true) _
+    (λ x h. sym (index-extendedBy x more (extendedBy names variables) h)) variables (extendedBy-settles variables names)
+
 module _ (text : Bytes) where
   -- put otherwise
   pub entered-alike : {variables others : List Name} {known alike : Bool} {words further : (Name → ℕ) → List ℕ} {old new : Memory} {to : ℕ}
@@ -40,13 +47,6 @@ module _ (text : Bytes) where
       → Entered text others alike further old to new
   entered-alike {old = old} {new} {to} v k w e =
       record { names = e .names ∙ ap (extendedBy (namesIn text (old .names))) v; work = λ h. e .work (k h) ∙ ap (sets (old .work) to) (w (indexIn (namesIn text (new .names)))) }
-
-  -- an index does not change when other variables are listed
-  index-kept : (variables more names : List Name)
-      → Each (λ x. indexIn (extendedBy names variables) x ≡ indexIn (extendedBy (extendedBy names variables) more) x) variables
-  index-kept variables more names =
-      each-weaken (λ x. settled (extendedBy names variables) x ≡ true) _
-      (λ x h. sym (index-extendedBy x more (extendedBy names variables) h)) variables (extendedBy-settles variables names)
 
   pub entered-none : (m : Memory) (to : ℕ) → Entered text [] true (λ ix. []) m to m
   unfolding extendedBy

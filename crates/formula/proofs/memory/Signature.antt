@@ -1,4 +1,4 @@
--- The problem's predicates, looked at one after the other.
+-- The problem's predicates, looked at one after the other; and what is read and judged by them alone.
 -- Assumes nothing.
 use Prim.Native.Nat.{ℕ, zero, suc, _+_, _-_, _≤_, _<_, max}
 use native.Mathlib.Nat.{add-zero}
@@ -6,12 +6,15 @@ use native.Mathlib.Numerals.{add-one, sub-one}
 use native.Mathlib.Omega.{arith}
 use mathlib.Core.Path.{_≡_, refl, sym, ap, ap₂, _∙_}
 use mathlib.Core.List.{List, [], _∷_, _++_, map}
-use mathlib.Core.Bool.{Bool, true, false, _&&_, _||_}
+use mathlib.Core.Bool.{true, false, _&&_}
 use lib.Dec.{eqb}
 use Rattle.text.specs.Bytes.{Bytes, same}
 use Rattle.text.specs.Problem.{Name, Predicate, Problem, inputPredicates, predicates, named, declared, isInput}
 use Rattle.text.specs.memory.Table.{position, indexed, tableName, tableNames, tablePredicate, tableInput, problemIn}
 use Rattle.text.specs.declared.table.Table.{Table}
+use Rattle.logic.specs.Formula.{Side, all, negation, implies, impliedBy, equivalent, junction, Formula, truth, atom, equal, connective, quantifier, Formulas, noParts, part}
+use Rattle.logic.specs.Names.{known, allKnown}
+use Rattle.logic.specs.Normal.{mentionsOnly, permits, hasForm, allHaveForm, isGNF}
 use Rattle.formula.specs.memory.Signature.{signatureOf}
 use Rattle.formula.proofs.memory.NameTable.{position-within, length-indexed}
 
@@ -91,3 +94,58 @@ module _ (f : ℕ → Predicate) (i : ℕ) (p : Name) where
     unfolding indexed
     declared-next zero h e = absurd (omega arith)
     declared-next (suc n) h e = rw (e, add-one i, sub-one (suc n))
+
+-- Reading asks for no rows: 7 and 8 are the same in every problem of the table.
+
+-- problems of the same predicates and domain
+module _ (P Q : Problem) (domain : P .domain ≡ Q .domain) (inputs : isInput P ≡ isInput Q) (all-predicates : predicates P ≡ predicates Q) where
+  mutual
+    unfolding known
+
+    known-alike : (f : Formula) → known P f ≡ known Q f
+    known-alike (truth b) = refl
+    known-alike (atom p ts) = rw (all-predicates, domain)
+    known-alike (equal s t) = rw domain
+    known-alike (connective o fs) = allKnown-alike fs
+    known-alike (quantifier c x g f) = ap₂ _&&_ (known-alike g) (known-alike f)
+
+    allKnown-alike : (fs : Formulas) → allKnown P fs ≡ allKnown Q fs
+    allKnown-alike noParts = refl
+    allKnown-alike (part f fs) = ap₂ _&&_ (known-alike f) (allKnown-alike fs)
+
+  mutual
+    unfolding hasForm
+
+    form-alike : (f : Formula) (c : Side) → hasForm P c f ≡ hasForm Q c f
+    form-alike (truth b) c = refl
+    form-alike (atom p ts) c = refl
+    form-alike (equal s t) c = refl
+    form-alike (connective negation fs) c = refl
+    form-alike (connective implies fs) c = refl
+    form-alike (connective impliedBy fs) c = refl
+    form-alike (connective equivalent fs) c = refl
+    form-alike (connective (junction d) fs) c = ap (λ b. permits c d && b) (forms-alike fs d)
+    form-alike (quantifier d x g f) c = ap₂ (λ a b. permits c d && (a && b)) (ap (λ test. mentionsOnly test g) inputs) (form-alike f d)
+
+    forms-alike : (fs : Formulas) (c : Side) → allHaveForm P c fs ≡ allHaveForm Q c fs
+    forms-alike noParts c = refl
+    forms-alike (part f fs) c = ap₂ _&&_ (form-alike f c) (forms-alike fs c)
+
+module _ (problem : Bytes) (table : Table) (rows : List ℕ) where
+  inputs-alike : isInput (signatureOf problem table) ≡ isInput (problemIn problem table rows)
+  unfolding signatureOf
+  inputs-alike = ap named (inputs-table problem table [] ∙ sym (inputs-table problem table rows))
+
+  predicates-alike : predicates (signatureOf problem table) ≡ predicates (problemIn problem table rows)
+  unfolding signatureOf
+  predicates-alike = predicates-table problem table [] ∙ sym (predicates-table problem table rows)
+
+  domain-alike : signatureOf problem table .domain ≡ problemIn problem table rows .domain
+  unfolding signatureOf problemIn
+  domain-alike = refl
+
+  pub known-table : (f : Formula) → known (signatureOf problem table) f ≡ known (problemIn problem table rows) f
+  known-table = known-alike (signatureOf problem table) (problemIn problem table rows) domain-alike inputs-alike predicates-alike
+
+  pub normal-table : (f : Formula) → isGNF (signatureOf problem table) f ≡ isGNF (problemIn problem table rows) f
+  normal-table f = form-alike (signatureOf problem table) (problemIn problem table rows) domain-alike inputs-alike predicates-alike f all

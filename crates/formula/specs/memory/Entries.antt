@@ -23,9 +23,12 @@ pub record Setting : Type 0 where
 abbrev pub setting : Bytes → (Name → Bool) → Problem → (Name → ℕ) → Setting
 setting text bound problem index = record { text = text; problem = problem; bound = bound; index = index }
 
--- as the code has it
+-- as the code has it: a predicate's index is its place in the table
+abbrev pub predicateIndex : Bytes → Table → Name → ℕ
+predicateIndex problem table p = position p (tableNames problem table)
+
 abbrev pub settingOf : Bytes → Scope → Bytes → Table → Setting
-settingOf text scope problem table = setting text (boundIn text scope) (signatureOf problem table) (λ p. position p (tableNames problem table))
+settingOf text scope problem table = setting text (boundIn text scope) (signatureOf problem table) (predicateIndex problem table)
 
 -- lent memory: the variables' table, and the words
 pub record Memory : Type 0 where
