@@ -39,3 +39,4 @@ pub mod PartReads
 pub mod Connectives
 pub mod Quantifiers
 pub mod Levels
+pub mod TheoryLines

@@ -23,3 +23,4 @@ pub mod Admitted
 pub mod Rewriting
 pub mod Openings
 pub mod PartReads
+pub mod TheoryLines

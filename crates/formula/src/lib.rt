@@ -20,5 +20,6 @@ pub mod signature;
 pub mod simplify;
 pub mod store;
 pub mod term;
+pub mod theory_line;
 pub mod walk;
 pub mod word;

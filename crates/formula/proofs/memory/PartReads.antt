@@ -62,7 +62,7 @@ mutual
 
 -- Lists of formulas, with one more behind the others.
 
-allVariables-last : (fs : List Formula) (f : Formula) → allVariables (partsOf fs) ++ variables f ≡ allVariables (partsOf (fs ++ (f ∷ [])))
+pub allVariables-last : (fs : List Formula) (f : Formula) → allVariables (partsOf fs) ++ variables f ≡ allVariables (partsOf (fs ++ (f ∷ [])))
 unfolding variables
 allVariables-last [] f = sym (append-nil (variables f))
 allVariables-last (g ∷ fs) f = append-assoc (variables g) _ _ ∙ ap (λ xs. variables g ++ xs) (allVariables-last fs f)
@@ -72,7 +72,7 @@ unfolding known
 allKnown-last P [] f = sym (and-true (known P f))
 allKnown-last P (g ∷ fs) f = and-assoc (known P g) _ _ ∙ ap (λ b. known P g && b) (allKnown-last P fs f)
 
-allWords-last : (ix px : Name → ℕ) (fs : List Formula) (f : Formula)
+pub allWords-last : (ix px : Name → ℕ) (fs : List Formula) (f : Formula)
     → allWords ix px (partsOf fs) ++ words ix px f ≡ allWords ix px (partsOf (fs ++ (f ∷ [])))
 unfolding words
 allWords-last ix px [] f = sym (append-nil (words ix px f))
