@@ -21,3 +21,5 @@ pub mod HeldRules
 pub mod HeldWhole
 pub mod Held
 pub mod HeldEnd
+pub mod Going
+pub mod Turns

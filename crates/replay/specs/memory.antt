@@ -1,3 +1,5 @@
 pub mod Names
 pub mod Held
 pub mod Steps
+pub mod Going
+pub mod Lines

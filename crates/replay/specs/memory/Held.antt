@@ -6,9 +6,10 @@ use lib.Dec.{eqb, leb}
 use lib.ListN.{length, getD, take, drop}
 use lib.Seq.{slice}
 use Rattle.text.specs.Outcome.{Outcome, done, refused, mapped, provided, _>>=_, _>>_}
-use Rattle.text.specs.Derivation.{Position}
+use Rattle.text.specs.Derivation.{Position, Rule, SNAND, SNOR, STN, EPRED, EPROP, IQ, RuleLine, rewrite, unsat, trivial, splitc}
 use Rattle.text.specs.declared.table.Table.{Table}
-use Rattle.text.specs.declared.rule_line.Rule.{Rule}
+use Rattle.text.specs.declared.rule_line.Rule.{Rule as RuleName}
+use Rattle.text.specs.declared.rule_line.Rule.the-variants.{Snand, Snor, Stn, Epred, Eprop, Iq}
 use Rattle.formula.specs.memory.Kinds.{kindOf, skip}
 use Rattle.formula.specs.memory.Paths.{placeOf}
 use Rattle.formula.specs.memory.Storing.{spliced}
@@ -78,14 +79,14 @@ sizedIn m at decided flags =
 
 module _ (table : Table) (rows : List ℕ) where
   -- a rule at a place: 13, 14, 15
-  unfoldable pub madeIn : Rule → Held → ℕ → Outcome ℕ Held
+  unfoldable pub madeIn : RuleName → Held → ℕ → Outcome ℕ Held
   madeIn rule m at =
       let s = drop at (m .words) in
       let decided = ruleFit table rows rule s in
       unlessRefused (misfit decided s) (sizedIn m at decided (admittedFlags table rows 32 s))
 
   -- a rule at a path: 11, 12, 13, 14, 15
-  unfoldable pub rewrittenIn : Held → Rule → Position → Outcome ℕ Held
+  unfoldable pub rewrittenIn : Held → RuleName → Position → Outcome ℕ Held
   rewrittenIn m rule p = targetIn m p >>= λ t. provided (not (m .ended)) 13 >> madeIn rule m (t .1)
 
 -- without the first word of the formula at a place, and with other names for its own
@@ -124,3 +125,19 @@ splitIn m p names =
 -- UNSAT
 unfoldable pub refutedIn : Held → Position → Outcome ℕ Held
 refutedIn m p = wholeIn m p >>= λ t. provided (eqb (getD (m .words) (t .1) 0) 0) 13 >> done (held (0 ∷ []) (p .name ∷ []) (m .top) true)
+
+-- the rule as the code names it
+abbrev pub ruleName : Rule → RuleName
+ruleName SNAND = Snand
+ruleName SNOR = Snor
+ruleName STN = Stn
+ruleName EPRED = Epred
+ruleName EPROP = Eprop
+ruleName IQ = Iq
+
+-- a rule line on what memory holds
+unfoldable pub steppedIn : Table → List ℕ → Held → RuleLine → Outcome ℕ Held
+steppedIn table rows m (rewrite rule p) = rewrittenIn table rows m (ruleName rule) p
+steppedIn table rows m (unsat p) = refutedIn m p
+steppedIn table rows m (trivial p) = removedIn m p
+steppedIn table rows m (splitc p names) = splitIn m p names

@@ -1,0 +1,134 @@
+-- `replaying::replay_lines`: the whole derivation comes to what the rest of it comes to from the live formulas so far.
+-- Assumes nothing.
+use Rattle.replay.proofs.replaying.replay_lines.Statement.{statement}
+use borrow.Author.Needs.{needs}
+use native.Mathlib.Omega.{arith}
+use Prim.Native.Nat.{_+_, _-_, _≤_, _<_}
+use mathlib.Core.Path.{_≡_, refl, sym, _∙_}
+use lib.ListN.{length}
+use Rattle.replay.specs.Replay.{among}
+use Rattle.replay.specs.memory.Held.{Held}
+use Rattle.replay.specs.memory.Steps.{rowsIn, heldIn, Few}
+use Rattle.replay.specs.memory.Lines.{JudgedIn, GoingIn}
+use Rattle.replay.proofs.Turns.{told-line, lines-end, lines-refused, lines-on, lines-more, lines-whole, lines-finished}
+use Rattle.replay.proofs.replaying.replay_lines.Tie as tie
+
+abbrev Inv-loop : tie.InvT-loop
+Inv-loop text at work₀ layout table place₀ live₀ rules₀ work place live rules = (place ≤ length text) × Few live × (rowsIn layout work ≡ rowsIn layout work₀) × (length work ≡ length work₀) × (rules ≤ place) × ((start : Held) (whole : JudgedIn) → GoingIn table (rowsIn layout work₀) start whole text at 3 (among (heldIn layout live₀ work₀) 0) → GoingIn table (rowsIn layout work₀) start whole text place (rules + 3) (among (heldIn layout live work) rules))
+
+abbrev μ-loop : tie.MeasureT-loop
+μ-loop text at work₀ layout table place₀ live₀ rules₀ work place live rules = length text - place
+
+loop-holds : tie.Need-loop-holds Inv-loop μ-loop
+loop-holds c = (c .before .before .pre .3, c .before .before .pre .1, refl, refl, omega arith, λ start whole g. g)
+
+replay-line-requires : tie.Need-replay-line-requires Inv-loop μ-loop
+replay-line-requires c κs = (rw (c .before .before .loop .inv .3) (c .before .before .before .before .before .pre .0), c .before .before .loop .inv .1, c .before .before .before .before .before .pre .2, c .before .loop-test .taken, c .before .before .before .before .before .pre .4)
+
+enum-known-after : tie.Need-enum-known-after Inv-loop μ-loop
+enum-known-after c = search needs
+
+add-rules : tie.Need-add-rules Inv-loop μ-loop
+add-rules c = omega (arith, c .before .before .before .before .before .before .before .before .loop .inv .4, c .before .before .before .before .before .before .before .before .before .before .before .pre .4)
+
+loop-less : tie.Need-loop-less Inv-loop μ-loop
+loop-less c =
+    let a = c .before .before .before .before .before .before .before .before .before .before .before .args in
+    let l = c .before .before .before .before .before .before .before .before .loop in
+    let start = heldIn (a .layout) (l .live) (l .work) in
+    let t = (told-line (a .table) _ _ (l .inv .2) start (a .layout) (l .work) (heldIn (a .layout) (l .live) (l .work)) (a .text .now) (l .place) _ _ (c .before .after .given .1) (c .before .before .before .before .before .replay-line .last .1 .1 .0) (c .before .before .before .before .before .replay-line .ensures start)) in
+    omega (arith, t .0 .after, t .0 .within, c .before .before .before .before .before .before .before .loop-test .taken)
+
+loop-again : tie.Need-loop-again Inv-loop μ-loop
+loop-again c =
+    let a = c .before .before .before .before .before .before .before .before .before .before .before .args in
+    let l = c .before .before .before .before .before .before .before .before .loop in
+    let start = heldIn (a .layout) (l .live) (l .work) in
+    let t = (told-line (a .table) _ _ (l .inv .2) start (a .layout) (l .work) (heldIn (a .layout) (l .live) (l .work)) (a .text .now) (l .place) _ _ (c .before .after .given .1) (c .before .before .before .before .before .replay-line .last .1 .1 .0) (c .before .before .before .before .before .replay-line .ensures start)) in
+    let same : length (c .before .before .before .before .before .replay-line .last .1 .1 .0) ≡ length (l .work) = search needs in
+    (t .0 .within, t .1 .0, t .1 .1, same ∙ l .inv .3, omega (arith, t .0 .after, l .inv .4), λ start whole g. lines-on (a .table) (rowsIn (a .layout) (a .work .now)) start (a .layout) (l .work) whole (a .text .now) (l .place) (l .rules) (heldIn (a .layout) (l .live) (l .work)) (l .inv .5 start whole g) (c .before .before .before .before .before .before .before .loop-test .taken) _ _ _ (told-line (a .table) _ _ (l .inv .2) start (a .layout) (l .work) (heldIn (a .layout) (l .live) (l .work)) (a .text .now) (l .place) _ _ (c .before .after .given .1) (c .before .before .before .before .before .replay-line .last .1 .1 .0) (c .before .before .before .before .before .replay-line .ensures start)))
+
+enum-known-names : tie.Need-enum-known-names Inv-loop μ-loop
+enum-known-names c = search needs
+
+add-t23 : tie.Need-add-t23 Inv-loop μ-loop
+add-t23 c = omega (arith, c .before .before .before .before .before .before .before .before .before .loop .inv .4, c .before .before .before .before .before .before .before .before .before .loop .inv .0, c .before .before .before .before .before .before .before .before .before .before .before .before .pre .4)
+
+same-length : tie.Need-same-length Inv-loop μ-loop
+same-length c =
+    let same : length (c .before .before .before .before .before .before .replay-line .last .1 .1 .0) ≡ length (c .before .before .before .before .before .before .before .before .before .loop .work) = search needs in
+    same ∙ c .before .before .before .before .before .before .before .before .before .loop .inv .3
+
+returns : tie.Need-returns Inv-loop μ-loop
+returns c =
+    let a = c .before .before .before .before .before .before .before .before .before .before .before .before .args in
+    let l = c .before .before .before .before .before .before .before .before .before .loop in
+    λ start whole g. lines-more (a .table) (rowsIn (a .layout) (a .work .now)) start (a .layout) (l .work) whole (a .text .now) (l .place) (l .rules) (heldIn (a .layout) (l .live) (l .work)) (l .inv .5 start whole g) (c .before .before .before .before .before .before .before .before .loop-test .taken) _ _ _ (c .before .before .before .before .before .before .replay-line .last .1 .1 .0) (told-line (a .table) _ _ (l .inv .2) start (a .layout) (l .work) (heldIn (a .layout) (l .live) (l .work)) (a .text .now) (l .place) _ _ (c .before .before .names .given .1) (c .before .before .before .before .before .before .replay-line .last .1 .1 .0) (c .before .before .before .before .before .before .replay-line .ensures start)) (c .if1 .taken)
+
+same-length-2 : tie.Need-same-length-2 Inv-loop μ-loop
+same-length-2 c =
+    let same : length (c .before .before .before .before .before .before .replay-line .last .1 .1 .0) ≡ length (c .before .before .before .before .before .before .before .before .before .loop .work) = search needs in
+    same ∙ c .before .before .before .before .before .before .before .before .before .loop .inv .3
+
+returns-2 : tie.Need-returns-2 Inv-loop μ-loop
+returns-2 c =
+    let a = c .before .before .before .before .before .before .before .before .before .before .before .before .args in
+    let l = c .before .before .before .before .before .before .before .before .before .loop in
+    λ start whole g.
+    let t = (told-line (a .table) _ _ (l .inv .2) start (a .layout) (l .work) (heldIn (a .layout) (l .live) (l .work)) (a .text .now) (l .place) _ _ (c .before .before .names .given .1) (c .before .before .before .before .before .before .replay-line .last .1 .1 .0) (c .before .before .before .before .before .before .replay-line .ensures start)) in
+    lines-finished whole (a .layout) (rowsIn (a .layout) (a .work .now)) (a .text .now) (l .live) (l .rules) _ _ (l .work) (c .before .before .before .before .before .before .replay-line .last .1 .1 .0) (t .1 .1) (lines-whole (a .table) (rowsIn (a .layout) (a .work .now)) start (a .layout) (l .work) whole (a .text .now) (l .place) (l .rules) (heldIn (a .layout) (l .live) (l .work)) (l .inv .5 start whole g) (c .before .before .before .before .before .before .before .before .loop-test .taken) _ _ _ (c .before .before .before .before .before .before .replay-line .last .1 .1 .0) t (omega (arith, c .if1 .left))) (l .inv .1) (l .inv .2) (omega (arith, t .1 .0, t .0 .within)) (omega (arith, l .inv .4, l .inv .0))
+
+enum-known-number : tie.Need-enum-known-number Inv-loop μ-loop
+enum-known-number c = search needs
+
+add-t24 : tie.Need-add-t24 Inv-loop μ-loop
+add-t24 c = omega (arith, c .before .before .before .before .before .before .before .before .loop .inv .4, c .before .before .before .before .before .before .before .before .loop .inv .0, c .before .before .before .before .before .before .before .before .before .before .before .pre .4)
+
+same-length-3 : tie.Need-same-length-3 Inv-loop μ-loop
+same-length-3 c =
+    let same : length (c .before .before .before .before .before .replay-line .last .1 .1 .0) ≡ length (c .before .before .before .before .before .before .before .before .loop .work) = search needs in
+    same ∙ c .before .before .before .before .before .before .before .before .loop .inv .3
+
+returns-3 : tie.Need-returns-3 Inv-loop μ-loop
+returns-3 c =
+    let a = c .before .before .before .before .before .before .before .before .before .before .before .args in
+    let l = c .before .before .before .before .before .before .before .before .loop in
+    λ start whole g. lines-refused (a .table) (rowsIn (a .layout) (a .work .now)) start (a .layout) (l .work) whole (a .text .now) (l .place) (l .rules) (heldIn (a .layout) (l .live) (l .work)) (l .inv .5 start whole g) (c .before .before .before .before .before .before .before .loop-test .taken) _ (c .before .before .before .before .before .replay-line .last .1 .1 .0) (told-line (a .table) _ _ (l .inv .2) start (a .layout) (l .work) (heldIn (a .layout) (l .live) (l .work)) (a .text .now) (l .place) _ _ (c .before .number .given .1) (c .before .before .before .before .before .replay-line .last .1 .1 .0) (c .before .before .before .before .before .replay-line .ensures start))
+
+add-t25 : tie.Need-add-t25 Inv-loop μ-loop
+add-t25 c = omega (arith, c .before .loop .inv .4, c .before .loop .inv .0, c .before .before .before .before .pre .4)
+
+same-length-4 : tie.Need-same-length-4 Inv-loop μ-loop
+same-length-4 c = c .before .loop .inv .3
+
+returns-4 : tie.Need-returns-4 Inv-loop μ-loop
+returns-4 c =
+    let a = c .before .before .before .before .args in
+    let l = c .before .loop in
+    λ start whole g. lines-end (a .table) (rowsIn (a .layout) (a .work .now)) start (a .layout) (l .work) whole (a .text .now) (l .place) (l .rules) (heldIn (a .layout) (l .live) (l .work)) (l .inv .5 start whole g) (omega (arith, c .loop-test .left))
+
+pub replay-lines-spec : {M : Type 1} → statement M
+replay-lines-spec =
+    tie.close
+    (tie.spec
+    Inv-loop
+    μ-loop
+    loop-holds
+    replay-line-requires
+    enum-known-after
+    add-rules
+    loop-less
+    loop-again
+    enum-known-names
+    add-t23
+    same-length
+    returns
+    same-length-2
+    returns-2
+    enum-known-number
+    add-t24
+    same-length-3
+    returns-3
+    add-t25
+    same-length-4
+    returns-4)

@@ -1,0 +1,186 @@
+// The replay of a derivation, line by line: 10 to 15.
+use crate::live::Layout;
+use crate::live::Live;
+use crate::live::Step;
+use crate::rewriting::rewritten;
+use crate::whole::refuted;
+use crate::whole::removed;
+use crate::whole::split;
+use text::rule_line::Ended;
+use text::rule_line::LineRead;
+use text::rule_line::grounder_end;
+use text::rule_line::line_at;
+use text::rule_line::version_end;
+use text::table::Table;
+ghost use mathlib.Core.Path.{_≡_};
+ghost use mathlib.Core.List.{List};
+ghost use Prim.Native.Nat.{_≤_, _<_};
+ghost use lib.ListN.{length};
+ghost use Rattle.replay.specs.Replay.{among, derivationFrom};
+ghost use Rattle.replay.specs.memory.Held.{Held, steppedIn};
+ghost use Rattle.replay.specs.memory.Steps.{rowsIn, heldIn, Arranged, Few, ToldStep};
+ghost use Rattle.replay.specs.memory.Lines.{JudgedIn, GoingIn, ToldLine, ToldReplayed, movedBy};
+
+// What a derivation comes to: the live formulas, the count of rule lines and the footer's names; or a number and a line.
+pub enum Replayed {
+    Done {
+        live: Live,
+        rules: u32,
+        names: usize,
+        many: usize,
+    },
+    Refused {
+        number: u32,
+        line: u32,
+    },
+}
+
+// What a line comes to: the live formulas after it and the place behind it; the footer; or a number.
+enum Moved {
+    On {
+        live: Live,
+        next: usize,
+    },
+    Footer {
+        names: usize,
+        many: usize,
+        next: usize,
+    },
+    Refused(u32),
+}
+
+fn moved_by(step: Step, next: usize) -> Moved
+    ensures { λ r. ⌜ r ≡ movedBy step next ⌝ }
+{
+    match step {
+        Step::Done(live) => Moved::On { live, next },
+        Step::Refused(number) => Moved::Refused(number),
+    }
+}
+
+// The line at a place, read and applied.
+fn replay_line(
+    text: &[u8],
+    at: usize,
+    work: &mut [u32],
+    layout: Layout,
+    live: Live,
+    table: Table,
+) -> Moved
+    requires { ⌜ Arranged layout (length (now work)) × Few live × (table .domain ≤ 64) × (at < length (now text)) × (length (now text) ≤ 65536) ⌝ }
+    ensures { λ r. ⌜ ((first : Held) → ToldLine table (rowsIn layout (now (work .entry))) first layout (now (work .entry)) (heldIn layout live (now (work .entry))) (now (text .entry)) at r (now (work .exit))) ⌝ }
+{
+    match line_at(text, at) {
+        LineRead::Rewrite {
+            rule,
+            name,
+            path,
+            steps,
+            next,
+        } => moved_by(
+            rewritten(text, work, layout, live, table, rule, name, path, steps),
+            next,
+        ),
+        LineRead::Unsat {
+            name,
+            path,
+            steps,
+            next,
+        } => moved_by(refuted(text, work, layout, live, name, path, steps), next),
+        LineRead::Trivial {
+            name,
+            path,
+            steps,
+            next,
+        } => moved_by(removed(text, work, layout, live, name, path, steps), next),
+        LineRead::Split {
+            name,
+            path,
+            steps,
+            names,
+            many,
+            next,
+        } => moved_by(
+            split(text, work, layout, live, name, path, steps, names, many),
+            next,
+        ),
+        LineRead::Footer { names, many, next } => Moved::Footer { names, many, next },
+        LineRead::Malformed => Moved::Refused(10),
+    }
+}
+
+// Rule lines and the footer, from a place on; nothing may stand behind the footer.
+fn replay_lines(
+    text: &[u8],
+    at: usize,
+    work: &mut [u32],
+    layout: Layout,
+    first: Live,
+    table: Table,
+) -> Replayed
+    requires { ⌜ Arranged layout (length (now work)) × Few first × (table .domain ≤ 64) × (at ≤ length (now text)) × (length (now text) ≤ 65536) ⌝ }
+    ensures { λ r. ⌜ ((start : Held) (whole : JudgedIn) → GoingIn table (rowsIn layout (now (work .entry))) start whole (now (text .entry)) at 3 (among (heldIn layout first (now (work .entry))) 0) → ToldReplayed whole layout (rowsIn layout (now (work .entry))) (now (text .entry)) r (now (work .exit))) ⌝ }
+{
+    let mut place = at;
+    let mut live = first;
+    let mut rules: u32 = 0;
+    while place < text.len() {
+        match replay_line(text, place, work, layout, live, table) {
+            Moved::On { live: after, next } => {
+                live = after;
+                place = next;
+                rules += 1;
+            }
+            Moved::Footer { names, many, next } => {
+                if next < text.len() {
+                    return Replayed::Refused {
+                        number: 10,
+                        line: rules + 4,
+                    };
+                }
+                return Replayed::Done {
+                    live,
+                    rules,
+                    names,
+                    many,
+                };
+            }
+            Moved::Refused(number) => {
+                return Replayed::Refused {
+                    number,
+                    line: rules + 3,
+                };
+            }
+        }
+    }
+    Replayed::Refused {
+        number: 10,
+        line: rules + 3,
+    }
+}
+
+// A whole derivation.
+pub fn replay_text(
+    text: &[u8],
+    work: &mut [u32],
+    layout: Layout,
+    live: Live,
+    table: Table,
+) -> Replayed
+    requires { ⌜ Arranged layout (length (now work)) × Few live × (table .domain ≤ 64) × (length (now text) ≤ 65536) ⌝ }
+    ensures { λ r. ⌜ ToldReplayed (derivationFrom (steppedIn table (rowsIn layout (now (work .entry)))) (heldIn layout live (now (work .entry))) (now (text .entry))) layout (rowsIn layout (now (work .entry))) (now (text .entry)) r (now (work .exit)) ⌝ }
+{
+    match version_end(text, 0) {
+        Ended::At(heading) => match grounder_end(text, heading) {
+            Ended::At(at) => replay_lines(text, at, work, layout, live, table),
+            Ended::Malformed => Replayed::Refused {
+                number: 10,
+                line: 2,
+            },
+        },
+        Ended::Malformed => Replayed::Refused {
+            number: 10,
+            line: 1,
+        },
+    }
+}
