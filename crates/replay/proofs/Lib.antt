@@ -23,3 +23,4 @@ pub mod Held
 pub mod HeldEnd
 pub mod Going
 pub mod Turns
+pub mod Simulation

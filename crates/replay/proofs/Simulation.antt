@@ -1,0 +1,140 @@
+-- A replay over one kind of states is that over another, where what a rule line does to the one is what it does to the other: line by line.
+-- Assumes nothing.
+use Prim.Native.Nat.{ℕ, zero, suc}
+use mathlib.Core.Path.{_≡_, refl, sym, ap, _∙_}
+use mathlib.Core.List.{List, [], _∷_}
+use lib.ListN.{length}
+use Rattle.text.specs.Bytes.{Bytes}
+use Rattle.text.specs.Outcome.{Outcome, done, refused, mapped, _>>=_}
+use Rattle.text.specs.Reading.{Reader}
+use Rattle.text.specs.Lines.{Judged, Refusal, onLine, readLines, readText}
+use Rattle.text.specs.Derivation.{RuleLine, Line, step, footer, readLine, readVersion, readGrounder}
+use Rattle.text.proofs.Outcome.{Allowed, allowed-mapped, allowed-bind}
+use Rattle.text.proofs.Lines.{readText-keeps}
+use Rattle.replay.specs.Replay.{Place, top, heading, among, bottom, Replayed, wholeDerivation, lineDone, derivationLine, derivationFrom}
+
+-- A text read line by line, with other states.
+module _ {S U A B : Type 0} (file : ℕ) (line : S → Reader S) (other : U → Reader U) (finish : S → Outcome ℕ A) (ends : U → Outcome ℕ B) (g : S → U) (f : A → B)
+    (Q : S → Type 0) (keeps : (state : S) (s : Bytes) → Q state → Allowed (λ p. Q (p .0)) (line state s))
+    (alike : (state : S) (s : Bytes) → Q state → other (g state) s ≡ mapped {B = U × Bytes} (λ (p : S × Bytes). (g (p .0), p .1)) (line state s))
+    (finished : (state : S) → ends (g state) ≡ mapped f (finish state)) where
+  finishes : (k : ℕ) (state : S) → onLine file k (ends (g state)) ≡ mapped f (onLine file k (finish state))
+  finishes k state = ap (onLine file k) (finished state) ∙ pick (finish state)
+    where
+      pick : (o : Outcome ℕ A) → onLine file k (mapped f o) ≡ mapped f (onLine file k o)
+      pick (done a) = refl
+      pick (refused n) = refl
+
+  lines-alike : (most k : ℕ) (state : S) (s : Bytes) → Q state → readLines file other ends most k (g state) s ≡ mapped f (readLines file line finish most k state s)
+  unfolding readLines
+  lines-alike zero k state s q = finishes k state
+  lines-alike (suc most) k state [] q = finishes k state
+  lines-alike (suc most) k state (b ∷ s) q = rw (alike state (b ∷ s) q) (pick (line state (b ∷ s)) (keeps state (b ∷ s) q) (λ u t h. lines-alike most (suc k) u t h))
+    where
+      pick : (o : Outcome ℕ (S × Bytes)) → Allowed (λ p. Q (p .0)) o
+          → ((u : S) (t : Bytes) → Q u → readLines file other ends most (suc k) (g u) t ≡ mapped f (readLines file line finish most (suc k) u t))
+          → (onLine file k (mapped {B = U × Bytes} (λ (p : S × Bytes). (g (p .0), p .1)) o) >>= λ p. readLines file other ends most (suc k) (p .0) (p .1))
+          ≡ mapped f (onLine file k o >>= λ p. readLines file line finish most (suc k) (p .0) (p .1))
+      pick (done p) h rest = rest (p .0) (p .1) h
+      pick (refused n) h rest = refl
+
+-- A derivation, with other states.
+module _ {S U : Type 0} (move : S → RuleLine → Outcome ℕ S) (other : U → RuleLine → Outcome ℕ U) (g : S → U) (Q : S → Type 0)
+    (keeps : (s : S) (l : RuleLine) → Q s → Allowed Q (move s l)) (alike : (s : S) (l : RuleLine) → Q s → other (g s) l ≡ mapped g (move s l)) where
+  abbrev placeWith : Place S → Place U
+  placeWith top = top
+  placeWith heading = heading
+  placeWith (among s rules) = among (g s) rules
+  placeWith (bottom s rules names) = bottom (g s) rules names
+
+  abbrev pub replayedWith : Replayed S → Replayed U
+  replayedWith R = record { last = g (R .last); rules = R .rules; final = R .final }
+
+  abbrev Good : Place S → Type 0
+  Good top = Unit {0}
+  Good heading = Unit {0}
+  Good (among s rules) = Q s
+  Good (bottom s rules names) = Q s
+
+  whole-alike : (p : Place S) → wholeDerivation (placeWith p) ≡ mapped replayedWith (wholeDerivation p)
+  whole-alike top = refl
+  whole-alike heading = refl
+  whole-alike (among s rules) = refl
+  whole-alike (bottom s rules names) = refl
+
+  whole-good : (p : Place S) → Good p → Allowed (λ R. Q (R .last)) (wholeDerivation p)
+  whole-good top q = tt
+  whole-good heading q = tt
+  whole-good (among s rules) q = tt
+  whole-good (bottom s rules names) q = q
+
+  done-good : (s : S) (rules : ℕ) (l : Line) → Q s → Allowed Good (lineDone move s rules l)
+  done-good s rules (step l) q = allowed-mapped Q Good (λ u. among u (suc rules)) (λ u h. h) (move s l) (keeps s l q)
+  done-good s rules (footer names) q = q
+
+  done-alike : (s : S) (rules : ℕ) (l : Line) → Q s → lineDone other (g s) rules l ≡ mapped placeWith (lineDone move s rules l)
+  done-alike s rules (step l) q = ap (mapped (λ u. among u (suc rules))) (alike s l q) ∙ pick (move s l)
+    where
+      pick : (o : Outcome ℕ S) → mapped (λ u. among u (suc rules)) (mapped g o) ≡ mapped placeWith (mapped (λ u. among u (suc rules)) o)
+      pick (done u) = refl
+      pick (refused n) = refl
+  done-alike s rules (footer names) q = refl
+
+  module _ (first : S) (good : Q first) where
+    line-good : (p : Place S) (s : Bytes) → Good p → Allowed (λ (r : Place S × Bytes). Good (r .0)) (derivationLine move first p s)
+    unfolding derivationLine
+    line-good top s q = pick (readVersion s)
+      where
+        pick : (o : Outcome ℕ (Unit {0} × Bytes)) → Allowed (λ (r : Place S × Bytes). Good (r .0)) (o >>= λ r. done (heading, r .1))
+        pick (done r) = tt
+        pick (refused n) = tt
+    line-good heading s q = pick (readGrounder s)
+      where
+        pick : (o : Outcome ℕ (Bytes × Bytes)) → Allowed (λ (r : Place S × Bytes). Good (r .0)) (o >>= λ r. done (among first 0, r .1))
+        pick (done r) = good
+        pick (refused n) = tt
+    line-good (among st rules) s q = pick (readLine s)
+      where
+        pick : (o : Outcome ℕ (Line × Bytes)) → Allowed (λ (r : Place S × Bytes). Good (r .0)) (o >>= λ r. mapped (λ u. (u, r .1)) (lineDone move st rules (r .0)))
+        pick (done r) = allowed-mapped Good (λ (v : Place S × Bytes). Good (v .0)) (λ u. (u, r .1)) (λ u h. h) (lineDone move st rules (r .0)) (done-good st rules (r .0) q)
+        pick (refused n) = tt
+    line-good (bottom st rules names) s q = tt
+
+    line-alike : (p : Place S) (s : Bytes) → Good p → derivationLine other (g first) (placeWith p) s ≡ mapped (λ (r : Place S × Bytes). (placeWith (r .0), r .1)) (derivationLine move first p s)
+    unfolding derivationLine
+    line-alike top s q = pick (readVersion s)
+      where
+        pick : (o : Outcome ℕ (Unit {0} × Bytes))
+            → _≡_ {A = Outcome ℕ (Place U × Bytes)} (o >>= λ r. done (heading, r .1)) (mapped (λ (r : Place S × Bytes). (placeWith (r .0), r .1)) (o >>= λ r. done (heading, r .1)))
+        pick (done r) = refl
+        pick (refused n) = refl
+    line-alike heading s q = pick (readGrounder s)
+      where
+        pick : (o : Outcome ℕ (Bytes × Bytes))
+            → _≡_ {A = Outcome ℕ (Place U × Bytes)} (o >>= λ r. done (among (g first) 0, r .1)) (mapped (λ (r : Place S × Bytes). (placeWith (r .0), r .1)) (o >>= λ r. done (among first 0, r .1)))
+        pick (done r) = refl
+        pick (refused n) = refl
+    line-alike (among st rules) s q = pick (readLine s)
+      where
+        further : (t : Bytes) (o : Outcome ℕ (Place S))
+            → _≡_ {A = Outcome ℕ (Place U × Bytes)} (mapped (λ u. (u, t)) (mapped placeWith o)) (mapped (λ (r : Place S × Bytes). (placeWith (r .0), r .1)) (mapped (λ u. (u, t)) o))
+        further t (done u) = refl
+        further t (refused n) = refl
+
+        pick : (o : Outcome ℕ (Line × Bytes))
+            → _≡_ {A = Outcome ℕ (Place U × Bytes)} (o >>= λ r. mapped (λ u. (u, r .1)) (lineDone other (g st) rules (r .0)))
+            (mapped (λ (r : Place S × Bytes). (placeWith (r .0), r .1)) (o >>= λ r. mapped (λ u. (u, r .1)) (lineDone move st rules (r .0))))
+        pick (done r) = ap (mapped (λ u. (u, r .1))) (done-alike st rules (r .0) q) ∙ further (r .1) (lineDone move st rules (r .0))
+        pick (refused n) = refl
+    line-alike (bottom st rules names) s q = refl
+
+    -- the replay of a text over the other states
+    pub derivation-alike : (s : Bytes) → derivationFrom other (g first) s ≡ mapped replayedWith (derivationFrom move first s)
+    unfolding derivationFrom
+    derivation-alike s =
+        lines-alike 3 (derivationLine move first) (derivationLine other (g first)) wholeDerivation wholeDerivation placeWith replayedWith Good line-good line-alike whole-alike (length s) 1 top s tt
+
+    -- what every rule line keeps holds of the last state
+    pub derivation-keeps : (s : Bytes) → Allowed (λ R. Q (R .last)) (derivationFrom move first s)
+    unfolding derivationFrom
+    derivation-keeps s = readText-keeps 3 (derivationLine move first) wholeDerivation Good (λ R. Q (R .last)) line-good whole-good top s tt
