@@ -24,3 +24,4 @@ pub mod HeldEnd
 pub mod Going
 pub mod Turns
 pub mod Simulation
+pub mod HeldReplay

@@ -39,6 +39,10 @@ module _ {S U A B : Type 0} (file : ℕ) (line : S → Reader S) (other : U → 
       pick (refused n) h rest = refl
 
 -- A derivation, with other states.
+
+abbrev pub replayedWith : {S U : Type 0} → (S → U) → Replayed S → Replayed U
+replayedWith g R = record { last = g (R .last); rules = R .rules; final = R .final }
+
 module _ {S U : Type 0} (move : S → RuleLine → Outcome ℕ S) (other : U → RuleLine → Outcome ℕ U) (g : S → U) (Q : S → Type 0)
     (keeps : (s : S) (l : RuleLine) → Q s → Allowed Q (move s l)) (alike : (s : S) (l : RuleLine) → Q s → other (g s) l ≡ mapped g (move s l)) where
   abbrev placeWith : Place S → Place U
@@ -47,16 +51,13 @@ module _ {S U : Type 0} (move : S → RuleLine → Outcome ℕ S) (other : U →
   placeWith (among s rules) = among (g s) rules
   placeWith (bottom s rules names) = bottom (g s) rules names
 
-  abbrev pub replayedWith : Replayed S → Replayed U
-  replayedWith R = record { last = g (R .last); rules = R .rules; final = R .final }
-
   abbrev Good : Place S → Type 0
   Good top = Unit {0}
   Good heading = Unit {0}
   Good (among s rules) = Q s
   Good (bottom s rules names) = Q s
 
-  whole-alike : (p : Place S) → wholeDerivation (placeWith p) ≡ mapped replayedWith (wholeDerivation p)
+  whole-alike : (p : Place S) → wholeDerivation (placeWith p) ≡ mapped (replayedWith g) (wholeDerivation p)
   whole-alike top = refl
   whole-alike heading = refl
   whole-alike (among s rules) = refl
@@ -129,10 +130,10 @@ module _ {S U : Type 0} (move : S → RuleLine → Outcome ℕ S) (other : U →
     line-alike (bottom st rules names) s q = refl
 
     -- the replay of a text over the other states
-    pub derivation-alike : (s : Bytes) → derivationFrom other (g first) s ≡ mapped replayedWith (derivationFrom move first s)
+    pub derivation-alike : (s : Bytes) → derivationFrom other (g first) s ≡ mapped (replayedWith g) (derivationFrom move first s)
     unfolding derivationFrom
     derivation-alike s =
-        lines-alike 3 (derivationLine move first) (derivationLine other (g first)) wholeDerivation wholeDerivation placeWith replayedWith Good line-good line-alike whole-alike (length s) 1 top s tt
+        lines-alike 3 (derivationLine move first) (derivationLine other (g first)) wholeDerivation wholeDerivation placeWith (replayedWith g) Good line-good line-alike whole-alike (length s) 1 top s tt
 
     -- what every rule line keeps holds of the last state
     pub derivation-keeps : (s : Bytes) → Allowed (λ R. Q (R .last)) (derivationFrom move first s)

@@ -5,6 +5,7 @@ use mathlib.Core.Bool.{Bool, true, false, cond, not, _&&_}
 use lib.Dec.{eqb, leb}
 use lib.ListN.{length, getD, take, drop}
 use lib.Seq.{slice}
+use Rattle.text.specs.Bytes.{same}
 use Rattle.text.specs.Outcome.{Outcome, done, refused, mapped, provided, _>>=_, _>>_}
 use Rattle.text.specs.Derivation.{Position, Rule, SNAND, SNOR, STN, EPRED, EPROP, IQ, RuleLine, rewrite, unsat, trivial, splitc}
 use Rattle.text.specs.declared.table.Table.{Table}
@@ -14,6 +15,7 @@ use Rattle.formula.specs.memory.Kinds.{kindOf, skip}
 use Rattle.formula.specs.memory.Paths.{placeOf}
 use Rattle.formula.specs.memory.Storing.{spliced}
 use Rattle.formula.specs.memory.Rewriting.{endWithin, rewrittenWords}
+use Rattle.formula.specs.memory.Clauses.{allAt, clauseAt}
 use Rattle.formula.specs.memory.Deciding.{ruleFit}
 use Rattle.formula.specs.memory.Admitted.{guardClosed, admittedFlags}
 use Rattle.formula.specs.declared.word.Sign.{Sign}
@@ -141,3 +143,8 @@ steppedIn table rows m (rewrite rule p) = rewrittenIn table rows m (ruleName rul
 steppedIn table rows m (unsat p) = refutedIn m p
 steppedIn table rows m (trivial p) = removedIn m p
 steppedIn table rows m (splitc p names) = splitIn m p names
+
+-- 16 where the footer does not list the live names, 17 where a final formula is no ground clause; 0 otherwise
+unfoldable pub endIn : Table → Held → List ℕ → ℕ
+endIn table m final =
+    cond (same final (m .names)) (cond (m .ended) 0 (cond (allAt (clauseAt table 32) (length (m .names)) (m .words)) 0 17)) 16
