@@ -4,14 +4,15 @@ use Prim.Native.Nat.{ℕ, zero, suc, _+_, _-_, _≤_, _<_}
 use native.Mathlib.Numerals.{add-one}
 use native.Mathlib.Omega.{arith}
 use mathlib.Core.Path.{_≡_, refl, sym, ap, _∙_}
-use mathlib.Core.List.{List, [], _∷_}
+use mathlib.Core.List.{List, [], _∷_, _++_}
 use mathlib.Core.Bool.{Bool, true, false, cond, _&&_}
 use lib.Dec.{eqb}
-use lib.ListN.{length, getD, take, drop, length-take, length-drop, drop-of-length-le}
-use lib.Seq.{drop-cons, getD-take, getD-drop}
+use lib.ListN.{length, getD, take, drop, set, length-take, length-drop, drop-of-length-le}
+use lib.Seq.{drop-cons, getD-take, getD-drop, set-at, take-at}
 use borrow.Author.Tests.{eq-eqb, ne-eqb}
 use Rattle.text.specs.Bytes.{Bytes, same}
 use Rattle.text.specs.memory.Numbers.{numberAt, numberEnd, numbersAt}
+use Rattle.logic.specs.Meaning.{countFrom}
 use Rattle.replay.specs.memory.Names.{indexIn}
 
 -- a list that stands in memory from a place on
@@ -72,3 +73,22 @@ pub numbers-length : (text : Bytes) (at many : ℕ) → length (numbersAt text a
 unfolding numbersAt
 numbers-length text at zero = refl
 numbers-length text at (suc many) = ap suc (numbers-length text (numberEnd text at + 1) many)
+
+-- The names 1, 2, 3 and so on, at the front of a list.
+
+length-countFrom : (k n : ℕ) → length (countFrom k n) ≡ n
+length-countFrom k zero = refl
+length-countFrom k (suc n) = ap suc (length-countFrom (suc k) n)
+
+-- one number more, at the end or in the list
+countFrom-end : (k n m : ℕ) (rest : List ℕ) → m ≡ k + n → countFrom k n ++ (m ∷ rest) ≡ countFrom k (suc n) ++ rest
+countFrom-end k zero m rest e = let same : m ≡ k = omega arith in rw same
+countFrom-end k (suc n) m rest e = ap (λ (l : List ℕ). k ∷ l) (countFrom-end (suc k) n m rest (omega arith))
+
+pub first-more : (list : List ℕ) (i : ℕ) → i < length list → set (countFrom 1 i ++ drop i list) i (i + 1) ≡ countFrom 1 (i + 1) ++ drop (i + 1) list
+first-more list i h =
+    rw (add-one i, drop-cons list i 0 h, set-at (countFrom 1 i) _ (drop (suc i) list) (suc i) i (length-countFrom 1 i))
+    (countFrom-end 1 i (suc i) (drop (suc i) list) (omega arith))
+
+pub first-names : (list : List ℕ) (count : ℕ) → take count (countFrom 1 count ++ drop count list) ≡ countFrom 1 count
+first-names list count = take-at (countFrom 1 count) (drop count list) count (length-countFrom 1 count)

@@ -4,10 +4,12 @@ use formula::store::copy_back;
 use formula::store::put;
 use text::number::digits_at;
 ghost use mathlib.Core.Path.{_≡_};
+ghost use mathlib.Core.List.{_++_};
 ghost use Prim.Native.Nat.{_+_, _≤_, _<_};
 ghost use lib.ListN.{length, take, drop};
 ghost use Rattle.text.specs.Bytes.{same};
 ghost use Rattle.text.specs.memory.Numbers.{numbersAt};
+ghost use Rattle.logic.specs.Meaning.{countFrom};
 ghost use Rattle.formula.specs.memory.Storing.{Stores, spliced, Rewritten};
 ghost use Rattle.replay.specs.memory.Names.{indexIn, ToldClimb};
 ghost use Rattle.replay.specs.memory.Steps.{Roomy, Fronted};
@@ -133,4 +135,16 @@ pub fn with_names(
     let total = names_behind(list, index, count, spare, text, at, many);
     copy_back(list, spare, total);
     total
+}
+
+// The names 1, 2, 3 and so on, at the front of a list.
+pub fn put_first(list: &mut [u32], count: usize)
+    requires { ⌜ (count ≤ length (now list)) × (count ≤ 65535) ⌝ }
+    ensures { λ r. ⌜ now (list .exit) ≡ countFrom 1 count ++ drop count (now (list .entry)) ⌝ }
+{
+    let mut i: usize = 0;
+    while i < count {
+        list[i] = i as u32 + 1;
+        i += 1;
+    }
 }

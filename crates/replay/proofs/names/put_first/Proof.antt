@@ -1,0 +1,67 @@
+-- `names::put_first` stores the names one by one. The invariant: those passed are stored, and the others as they were.
+-- Assumes nothing.
+use Rattle.replay.proofs.names.put_first.Statement.{statement}
+use borrow.Author.Needs.{needs}
+use native.Mathlib.Omega.{arith}
+use Prim.Native.Nat.{ℕ, _+_, _-_, _≤_}
+use mathlib.Core.Path.{_≡_, refl, ap, _∙_}
+use mathlib.Core.List.{List, _++_}
+use lib.ListN.{length, set, drop, length-set}
+use Rattle.logic.specs.Meaning.{countFrom}
+use Rattle.replay.proofs.NameLists.{first-more}
+use Rattle.replay.proofs.names.put_first.Tie as tie
+
+abbrev Inv-loop : tie.InvT-loop
+Inv-loop list₀ count i₀ list i = (i ≤ count) × (length list ≡ length list₀) × (list ≡ countFrom 1 i ++ drop i list₀)
+
+abbrev μ-loop : tie.MeasureT-loop
+μ-loop list₀ count i₀ list i = count - i
+
+loop-holds : tie.Need-loop-holds Inv-loop μ-loop
+loop-holds c = (omega arith, refl, refl)
+
+cast-list : tie.Need-cast-list Inv-loop μ-loop
+cast-list c = search needs
+
+add-list : tie.Need-add-list Inv-loop μ-loop
+add-list c = search needs
+
+mul-list : tie.Need-mul-list Inv-loop μ-loop
+mul-list c = search needs
+
+slice-write-list : tie.Need-slice-write-list Inv-loop μ-loop
+slice-write-list c = omega (arith, c .before .loop .inv .1)
+
+add-i : tie.Need-add-i Inv-loop μ-loop
+add-i c = search needs
+
+loop-less : tie.Need-loop-less Inv-loop μ-loop
+loop-less c = search needs
+
+loop-again : tie.Need-loop-again Inv-loop μ-loop
+loop-again c = (omega arith, length-set (c .before .loop .list) (c .before .loop .i) _ ∙ c .before .loop .inv .1, ap (λ (l : List ℕ). set l (c .before .loop .i) (c .before .loop .i + 1)) (c .before .loop .inv .2) ∙ first-more (c .before .before .args .list .now) (c .before .loop .i) (omega (arith, c .before .before .pre .0)))
+
+same-length : tie.Need-same-length Inv-loop μ-loop
+same-length c = c .before .loop .inv .1
+
+returns : tie.Need-returns Inv-loop μ-loop
+returns c =
+    let e : c .before .loop .i ≡ c .before .before .args .count = omega (arith, c .before .loop .inv .0, c .loop-test .left) in
+    rw (← e) (c .before .loop .inv .2)
+
+pub put-first-spec : {M : Type 1} → statement M
+put-first-spec =
+    tie.close
+    (tie.spec
+    Inv-loop
+    μ-loop
+    loop-holds
+    cast-list
+    add-list
+    mul-list
+    slice-write-list
+    add-i
+    loop-less
+    loop-again
+    same-length
+    returns)
