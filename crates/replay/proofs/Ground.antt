@@ -49,7 +49,7 @@ pub steps-sized : (P : Problem) (s u : State) (ls : List RuleLine) → Steps P s
 steps-sized P s u ls (stop v) e = e
 steps-sized P s u ls (go t v w l ms a b) e = steps-sized P v w ms b (step-sized P t v l a)
 
-sizeTotal-append : (fs gs : List Formula) → sizeTotal (fs ++ gs) ≡ sizeTotal fs + sizeTotal gs
+pub sizeTotal-append : (fs gs : List Formula) → sizeTotal (fs ++ gs) ≡ sizeTotal fs + sizeTotal gs
 sizeTotal-append [] gs = omega arith
 sizeTotal-append (f ∷ fs) gs = rw (sizeTotal-append fs gs) (omega arith)
 

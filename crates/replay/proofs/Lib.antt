@@ -25,3 +25,4 @@ pub mod Going
 pub mod Turns
 pub mod Simulation
 pub mod HeldReplay
+pub mod TheoryReads

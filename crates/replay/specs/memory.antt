@@ -3,3 +3,4 @@ pub mod Held
 pub mod Steps
 pub mod Going
 pub mod Lines
+pub mod TheoryReads

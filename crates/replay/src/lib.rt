@@ -5,4 +5,5 @@ pub mod names;
 pub mod replaying;
 pub mod rewriting;
 pub mod target;
+pub mod theory_reader;
 pub mod whole;

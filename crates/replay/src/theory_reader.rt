@@ -1,0 +1,77 @@
+// A theory's text read into memory, line by line: 5 to 9.
+use formula::name_table::names_fit;
+use formula::theory_line::LineRead;
+use formula::theory_line::read_line;
+use text::table::Table;
+ghost use mathlib.Core.Path.{_≡_};
+ghost use mathlib.Core.List.{List};
+ghost use Prim.Native.Nat.{ℕ, _≤_};
+ghost use lib.ListN.{length, getD};
+ghost use Rattle.text.specs.memory.Table.{problemIn};
+ghost use Rattle.formula.specs.memory.NameTable.{namesIn};
+ghost use Rattle.formula.specs.memory.Entries.{predicateIndex};
+ghost use Rattle.replay.specs.memory.TheoryReads.{totalsFit, ToldTheory};
+
+// How many formulas there are and how many words they have; or a number and a line.
+pub enum TheoryRead {
+    Done { count: usize, full: usize },
+    Refused { number: u32, line: u32 },
+}
+
+// Whether a theory is within its limits, as far as it is read.
+fn limits_fit(text: &[u8], names: &[u32; 131], full: usize, count: usize, guarded: u32) -> bool
+    ensures { λ r. ⌜ r ≡ totalsFit full count guarded (namesIn (now (text .entry)) (now (names .entry))) ⌝ }
+{
+    if full > 4096 {
+        return false;
+    }
+    if count > 1024 {
+        return false;
+    }
+    if guarded > 3 {
+        return false;
+    }
+    names_fit(text, names)
+}
+
+// The theory that a text is, its words at the front of memory; or the number and the line that the text is refused with.
+pub fn read_theory(
+    text: &[u8],
+    problem: &[u8],
+    table: Table,
+    names: &mut [u32; 131],
+    work: &mut [u32],
+) -> TheoryRead
+    requires { ⌜ (length (now text) ≤ 65536) × (table .domain ≤ 64) × (table .count ≤ 32) × (getD (now names) 0 0 ≡ 0) × (4096 ≤ length (now work)) ⌝ }
+    ensures { λ r. ⌜ ((rows : List ℕ) → ToldTheory (problemIn (now (problem .entry)) table rows) (now (text .entry)) (predicateIndex (now (problem .entry)) table) r (now (names .exit)) (now (work .exit))) ⌝ }
+{
+    let mut at: usize = 0;
+    let mut count: usize = 0;
+    let mut full: usize = 0;
+    while at < text.len() {
+        match read_line(text, at, problem, table, names, work, full) {
+            LineRead::Done {
+                next,
+                size,
+                guarded,
+            } => {
+                count += 1;
+                full += size;
+                if !limits_fit(text, names, full, count, guarded) {
+                    return TheoryRead::Refused {
+                        number: 9,
+                        line: count as u32,
+                    };
+                }
+                at = next;
+            }
+            LineRead::Refused(number) => {
+                return TheoryRead::Refused {
+                    number,
+                    line: count as u32 + 1,
+                };
+            }
+        }
+    }
+    TheoryRead::Done { count, full }
+}
