@@ -26,3 +26,4 @@ pub mod Turns
 pub mod Simulation
 pub mod HeldReplay
 pub mod TheoryReads
+pub mod Begins
