@@ -27,3 +27,5 @@ pub mod Simulation
 pub mod HeldReplay
 pub mod TheoryReads
 pub mod Begins
+pub mod GroundReads
+pub mod Footers

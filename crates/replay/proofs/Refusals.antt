@@ -144,7 +144,7 @@ module _ {last : ℕ} (shared : 18 ≤ last) where
   placed : {A : Type 0} {file line : ℕ} {o : Judged A} → Refuses (From (suc file) (suc line) (λ n. isOf (suc file) n ≡ true)) o → Refuses (Listed last) o
   placed h = refuses-weaken (λ r w. listed r (rw (w .filed) (w .numbered)) ((λ e. omega arith), λ e. omega arith)) h
 
-  grounded-refuses : (problem theory derivation : Bytes) → Refuses (Listed last) (grounded problem theory derivation)
+  pub grounded-refuses : (problem theory derivation : Bytes) → Refuses (Listed last) (grounded problem theory derivation)
   grounded-refuses problem theory derivation =
       refuses-bind (placed (problemOf-refuses refl refl problem)) λ P.
       refuses-bind (placed (theoryOf-refuses refl refl refl refl refl P theory)) λ T.

@@ -31,6 +31,7 @@ use Rattle.replay.specs.declared.live.Step.{Step}
 use Rattle.replay.specs.declared.live.Step.the-variants as step-of
 use Rattle.replay.specs.declared.replaying.Moved.{Moved as MovedRead}
 use Rattle.replay.specs.declared.replaying.Moved.the-variants as moved
+use Rattle.replay.specs.declared.replaying.Replayed.{Replayed as ReplayedRead}
 use Rattle.replay.proofs.Going.{going-first, going-on, going-refused, going-end, going-stuck}
 
 name-rule : (rule : RuleName) → ruleName (ruleOf rule) ≡ rule
@@ -168,3 +169,8 @@ pub lines-finished : (whole : JudgedIn) (layout : Layout) (rows : List ℕ) (tex
     → rules ≤ length text → Finished whole layout rows text live rules names many work
 lines-finished whole layout rows text live rules names many old work same e few kept near counted =
     record { is = e ∙ rw same; few = few; kept = rw same kept; near = near; counted = counted }
+
+-- what is told of a derivation, by its answer
+pub told-replayed : (outcome : JudgedIn) (layout : Layout) (rows : List ℕ) (text : Bytes) (r other : ReplayedRead) → r ≡ other → (work : List ℕ)
+    → ToldReplayed outcome layout rows text r work → ToldReplayed outcome layout rows text other work
+told-replayed outcome layout rows text r other e work t = subst (λ (q : ReplayedRead). ToldReplayed outcome layout rows text q work) e t

@@ -4,3 +4,4 @@ pub mod Steps
 pub mod Going
 pub mod Lines
 pub mod TheoryReads
+pub mod Grounds

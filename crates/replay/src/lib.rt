@@ -1,5 +1,8 @@
+// Theories, the replay of a derivation, and the answers of the jobs.
 pub mod clearing;
+pub mod ending;
 pub mod front;
+pub mod grounding;
 pub mod live;
 pub mod names;
 pub mod replaying;

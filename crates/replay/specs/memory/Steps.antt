@@ -36,6 +36,7 @@ pub record Arranged (layout : Layout) (size : ℕ) : Type 0 where
   pub next : layout .next ≡ 4096
   pub rows : layout .next + 4096 ≤ layout .rows
   pub names : layout .rows ≤ layout .names
+  pub room : layout .rows + 1056 ≤ layout .names
   pub spare : layout .spare ≡ 1024
   pub end : layout .names + (layout .spare + 1024) ≤ size
   pub long : size ≤ 16384
