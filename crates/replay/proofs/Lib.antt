@@ -29,3 +29,6 @@ pub mod TheoryReads
 pub mod Begins
 pub mod GroundReads
 pub mod Footers
+pub mod Printing
+pub mod Concluding
+pub mod Promises

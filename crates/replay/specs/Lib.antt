@@ -4,3 +4,4 @@ pub mod Replay
 pub mod Answer
 pub mod Accepted
 pub mod memory
+pub mod Promise

@@ -5,3 +5,4 @@ pub mod Going
 pub mod Lines
 pub mod TheoryReads
 pub mod Grounds
+pub mod Conclusions

@@ -3,6 +3,7 @@ pub mod clearing;
 pub mod ending;
 pub mod front;
 pub mod grounding;
+pub mod job;
 pub mod live;
 pub mod names;
 pub mod replaying;

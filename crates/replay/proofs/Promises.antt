@@ -1,0 +1,123 @@
+-- What the jobs' promises come to: a promise allows one outcome alone, what stood in working memory before never shows, and demands 2 and 3. An answer
+-- is its five numbers, so it is the definition's; the demands are those on the definition.
+-- Assumes nothing.
+use Prim.Native.Nat.{ℕ, _≤_}
+use mathlib.Core.Path.{_≡_, sym, ap, subst, _∙_}
+use mathlib.Core.Logic.{_↔_, _⊎_, inl, inr}
+use mathlib.Core.List.{List, [], _++_}
+use mathlib.Core.Bool.{Bool, true, false}
+use lib.Dec.{leb}
+use lib.ListN.{length, drop}
+use borrow.Author.Tests.{le-leb}
+use Rattle.text.specs.Sizes.{textSize, workSize}
+use Rattle.text.specs.Bytes.{Bytes}
+use Rattle.text.specs.Outcome.{done}
+use Rattle.text.specs.Lines.{Judged}
+use Rattle.text.specs.Problem.{Problem, problemOf}
+use Rattle.text.proofs.Outcome.{allowed-done}
+use Rattle.logic.specs.Formula.{Formula}
+use Rattle.replay.specs.Theory.{theoryOf}
+use Rattle.replay.specs.Replay.{Ground, groundText}
+use Rattle.replay.specs.Answer.{Result, answerOf, outputAfter, resultOf, replayed, checked, replayResult, checkResult}
+use Rattle.replay.specs.Accepted.{Grounds, finalText, Fits, Equivalent}
+use Rattle.replay.specs.Promise.{Promise}
+use Rattle.replay.specs.memory.Conclusions.{answeredOf, shown}
+use Rattle.replay.specs.declared.job.Answer.{Answer}
+use Rattle.replay.proofs.Refusals.{checked-accepts}
+use Rattle.replay.proofs.Accepted.{checked-judges}
+use Rattle.replay.proofs.Demands.{accepts, demand-two, demand-two-result, demand-three, replay-two, replay-two-result, replay-three}
+
+-- One outcome.
+
+abbrev made : ℕ → ℕ → ℕ → ℕ → ℕ → Answer
+made number file line rules formulas = record { number = number; file = file; line = line; rules = rules; formulas = formulas }
+
+made-same : {a b c d e k l m n o : ℕ} → a ≡ k → b ≡ l → c ≡ m → d ≡ n → e ≡ o → made a b c d e ≡ made k l m n o
+made-same p q r s t = rw (p, q, r, s, t)
+
+-- the answer is the definition's
+promised-answer : {result : Result} {r : Answer} {output work : List ℕ} → Promise result r output work → r ≡ shown (result .answer)
+promised-answer p = made-same (p .number) (p .file) (p .line) (p .rules) (p .formulas)
+
+-- Any two outcomes that a promise allows are equal.
+pub promise-once : {result : Result} {r s : Answer} {output written work left : List ℕ} → Promise result r output work → Promise result s written left
+    → (r ≡ s) × (output ≡ written) × (work ≡ left)
+promise-once p q = (promised-answer p ∙ sym (promised-answer q), p .written ∙ sym (q .written), p .left ∙ sym (q .left))
+
+-- Working memory before.
+
+unseen : (J K : Judged Ground) (output work other : List ℕ) → J ≡ K → {r s : Answer} {new written left rest : List ℕ}
+    → Promise (resultOf J output work) r new left → Promise (resultOf K output other) s written rest → (r ≡ s) × (new ≡ written)
+unseen J K output work other e p q = (
+  promised-answer p ∙ ap (λ (j : Judged Ground). shown (answerOf j)) e ∙ sym (promised-answer q),
+  p .written ∙ ap (λ (j : Judged Ground). outputAfter j output) e ∙ sym (q .written),
+)
+
+answered-unseen : (compare : Bool) (problem theory derivation claim : Bytes) (output work other : List ℕ) → leb workSize (length work) ≡ leb workSize (length other)
+    → answeredOf compare problem theory derivation claim output work ≡ answeredOf compare problem theory derivation claim output other
+answered-unseen compare problem theory derivation claim output work other e = rw e
+
+-- of memories as long as each other, or both long enough
+both-enough : (work other : List ℕ) → (length work ≡ length other) ⊎ ((workSize ≤ length work) × (workSize ≤ length other))
+    → leb workSize (length work) ≡ leb workSize (length other)
+both-enough work other (inl e) = ap (leb workSize) e
+both-enough work other (inr (h, k)) = le-leb _ _ h ∙ sym (le-leb _ _ k)
+
+module _ (problem theory derivation : Bytes) (output work other : List ℕ) (alike : (length work ≡ length other) ⊎ ((workSize ≤ length work) × (workSize ≤ length other)))
+    {r s : Answer} {new written left rest : List ℕ} where
+  pub check-unseen : (claim : Bytes) → Promise (checkResult problem theory derivation claim output work) r new left
+      → Promise (checkResult problem theory derivation claim output other) s written rest → (r ≡ s) × (new ≡ written)
+  unfolding checked
+  check-unseen claim =
+      unseen _ _ output work other (answered-unseen true problem theory derivation claim output work other (both-enough work other alike))
+
+  pub replay-unseen : Promise (replayResult problem theory derivation output work) r new left
+      → Promise (replayResult problem theory derivation output other) s written rest → (r ≡ s) × (new ≡ written)
+  unfolding replayed textSize
+  replay-unseen =
+      unseen _ _ output work other (answered-unseen false problem theory derivation [] output work other (both-enough work other alike))
+
+-- The job check.
+module _ (problem theory derivation claim : Bytes) (output work : List ℕ) {r : Answer} {new left : List ℕ}
+    (promise : Promise (checkResult problem theory derivation claim output work) r new left) where
+  -- Demand 3.
+  pub check-three : r .number ≡ 0 → Equivalent problem theory claim
+  check-three e = demand-three problem theory derivation claim output work (sym (promise .number) ∙ e)
+
+  -- What is accepted is written: the claim.
+  pub check-written : r .number ≡ 0 → new ≡ claim ++ drop (length claim) output
+  check-written e =
+      let a = checked-accepts problem theory derivation claim output work .0 (sym (promise .number) ∙ e) in
+      let j = allowed-done _ (checked problem theory derivation claim output work) (a .0) (checked-judges problem theory derivation output work claim) (a .1) in
+      promise .written ∙ ap (λ (k : Judged Ground). outputAfter k output) (a .1) ∙ ap (λ (t : Bytes). t ++ drop (length t) output) (sym (j .1))
+
+  -- Demand 2.
+  module _ (P : Problem) (T : List Formula) (readProblem : problemOf problem ≡ done P) (readTheory : theoryOf P theory ≡ done T)
+      (fits : Fits problem theory derivation claim output work) where
+    pub check-two : (r .number ≡ 0) ↔ ((g : Grounds P T derivation) × (claim ≡ finalText g))
+    check-two =
+        let d = demand-two problem theory derivation claim output work P T readProblem readTheory fits in
+        ((λ e. d .0 (sym (promise .number) ∙ e)), λ w. promise .number ∙ d .1 w)
+
+    pub check-two-result : (g : Grounds P T derivation) → claim ≡ finalText g → Promise (accepts g output work) r new left
+    check-two-result g e =
+        subst (λ (result : Result). Promise result r new left) (demand-two-result problem theory derivation claim output work P T readProblem readTheory fits g e) promise
+
+-- The job replay.
+module _ (problem theory derivation : Bytes) (output work : List ℕ) {r : Answer} {new left : List ℕ}
+    (promise : Promise (replayResult problem theory derivation output work) r new left) where
+  pub replayed-three : r .number ≡ 0 → (G : Ground) × Equivalent problem theory (groundText G) × (new ≡ groundText G ++ drop (length (groundText G)) output)
+  replayed-three e =
+      let (G, same, written) = replay-three problem theory derivation output work (sym (promise .number) ∙ e) in
+      (G, same, promise .written ∙ written)
+
+  module _ (P : Problem) (T : List Formula) (readProblem : problemOf problem ≡ done P) (readTheory : theoryOf P theory ≡ done T)
+      (fits : Fits problem theory derivation [] output work) where
+    pub replayed-two : (r .number ≡ 0) ↔ Grounds P T derivation
+    replayed-two =
+        let d = replay-two problem theory derivation output work P T readProblem readTheory fits in
+        ((λ e. d .0 (sym (promise .number) ∙ e)), λ g. promise .number ∙ d .1 g)
+
+    pub replayed-two-result : (g : Grounds P T derivation) → Promise (accepts g output work) r new left
+    replayed-two-result g =
+        subst (λ (result : Result). Promise result r new left) (replay-two-result problem theory derivation output work P T readProblem readTheory fits g) promise
