@@ -1,14 +1,19 @@
-// Runs derivation lines, headings, problems and refused lines of data/ through the text crate and prints each answer.
+// Runs the cases of data/ and prints each answer: derivation lines, headings, problems and refused lines by the text crate, and whole runs
+// of check and replay.
 mod echo;
 mod headings;
 mod jobs;
+mod lent;
 mod lines;
 mod problems;
 mod refused;
+mod runs;
 mod say;
 mod texts;
+mod written;
 
 fn main() {
     lines::run();
     jobs::run();
+    runs::all();
 }

@@ -38,7 +38,7 @@ fn heading_from(file: &[u8], at: usize) -> usize
 }
 
 // How many bytes from a place to another; none, where that is not behind it.
-fn between(from: usize, to: usize) -> usize {
+pub fn between(from: usize, to: usize) -> usize {
     if from < to { to - from } else { 0 }
 }
 
