@@ -1,12 +1,11 @@
 -- A ground clause could stand in a theory: it is well spelled where output predicates' names are, in disjunctive form, and has no variable and no guard.
 -- By its three shapes.
 -- Assumes nothing.
-use Prim.Native.Nat.{ℕ, max}
+use Prim.Native.Nat.{max}
 use mathlib.Core.Path.{_≡_, refl, ap₂}
-use mathlib.Core.List.{List, [], _++_}
-use mathlib.Core.Bool.{Bool, true, false, _&&_, false≢true}
+use mathlib.Core.List.{[], _++_}
+use mathlib.Core.Bool.{true, _&&_, false≢true}
 use Rattle.text.specs.Problem.{Name, Problem, isOutput, isName}
-use Rattle.text.proofs.Laws.{and-left, and-right}
 use Rattle.logic.specs.Formula.{element, variable, Terms, noTerms, term, Side, all, any, Formula, Formulas}
 use Rattle.logic.specs.Text.{termsSpelled, spelled, allSpelled}
 use Rattle.logic.specs.Normal.{permits, elementsOnly, hasForm, allHaveForm}

@@ -1,7 +1,7 @@
 -- Terms and formulas; their size and depth; an element put for a variable.
-use Prim.Native.Nat.{ℕ, suc, zero, _+_, max}
+use Prim.Native.Nat.{ℕ, suc, _+_, max}
 use mathlib.Core.List.{List, [], _∷_}
-use mathlib.Core.Bool.{Bool, true, false, cond}
+use mathlib.Core.Bool.{Bool, cond}
 use Rattle.text.specs.Bytes.{same}
 use Rattle.text.specs.Problem.{Name}
 

@@ -1,7 +1,7 @@
 -- Number 9: the limits of a theory.
-use Prim.Native.Nat.{ℕ, suc, zero, _+_, max}
+use Prim.Native.Nat.{ℕ, suc, _+_, max}
 use mathlib.Core.List.{List, [], _∷_, _++_}
-use mathlib.Core.Bool.{Bool, true, false, cond, _&&_}
+use mathlib.Core.Bool.{Bool, cond, _&&_}
 use lib.Dec.{leb}
 use lib.ListN.{length}
 use Rattle.text.specs.Sizes.{nameSize, variableCount, guardQuantifierCount, formulaCount, theorySize}

@@ -1,13 +1,13 @@
 -- A formula read from its text: 5 where it is malformed, 6 where a formula would begin with no level left, whichever comes first from the left.
 use Prim.Native.Nat.{ℕ, suc, zero}
 use mathlib.Core.List.{List, [], _∷_, _++_}
-use mathlib.Core.Bool.{Bool, true, false, cond}
+use mathlib.Core.Bool.{true, false, cond}
 use lib.Dec.{eqb}
 use Rattle.text.specs.Bytes.{Bytes, bytes, next, isDigit, isSmallOrDigit}
 use Rattle.text.specs.Problem.{Name, readName}
 use Rattle.text.specs.Reading.{Reader, give, refuse, _>>=_, _>>_, word, token, readNumber, _⇒_, oneOf, separated}
 use Rattle.logic.specs.Formula.{Term, element, variable, Terms, noTerms, termsOf, Side, all, any, Connective, negation, implies, impliedBy, equivalent, junction}
-use Rattle.logic.specs.Formula.{Formula, truth, atom, equal, connective, quantifier, Formulas, noParts, part, partsOf}
+use Rattle.logic.specs.Formula.{Formula, truth, atom, equal, connective, quantifier, noParts, part, partsOf}
 use Rattle.logic.specs.Text.{truthText, connectiveSign, quantifierSign, isVariable}
 
 unfoldable pub readVariable : Reader Name

@@ -6,7 +6,7 @@ use lib.Dec.{eqb}
 use Rattle.text.specs.Outcome.{Outcome, done, refused, mapped}
 use Rattle.text.specs.Problem.{Name, Problem, isInput, given}
 use Rattle.text.specs.Derivation.{Rule, SNAND, SNOR, STN, EPRED, EPROP, IQ}
-use Rattle.logic.specs.Formula.{Term, Terms, noTerms, term, Side, all, any, Connective, negation, implies, impliedBy, equivalent, junction}
+use Rattle.logic.specs.Formula.{Term, Terms, noTerms, term, Side, all, any, negation, implies, impliedBy, equivalent, junction}
 use Rattle.logic.specs.Formula.{Formula, truth, atom, equal, connective, quantifier, Formulas, noParts, part, replace}
 use Rattle.logic.specs.Names.{closedBut}
 use Rattle.logic.specs.Normal.{isElementTerm, elementsOnly}

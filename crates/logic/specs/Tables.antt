@@ -2,7 +2,7 @@
 use Prim.Native.Nat.{ℕ, suc, zero}
 use mathlib.Core.Path.{_≡_}
 use mathlib.Core.List.{List, [], _∷_}
-use mathlib.Core.Bool.{Bool, true, false, not, _&&_}
+use mathlib.Core.Bool.{Bool, true, false, not}
 use lib.Dec.{eqb}
 use Rattle.text.specs.Problem.{Name, Problem, isInput, given}
 use Rattle.text.specs.Derivation.{Rule, SNAND, SNOR, STN, EPRED, EPROP, IQ}

@@ -1,5 +1,4 @@
 -- The text of a formula, and which formulas are well spelled.
-use Prim.Native.Nat.{ℕ}
 use mathlib.Core.List.{List, [], _∷_, _++_}
 use mathlib.Core.Bool.{Bool, true, false, not, _&&_}
 use Rattle.text.specs.Bytes.{Bytes, bytes, next, same, every, isSmall, isSmallOrDigit, joined}

@@ -3,14 +3,13 @@
 use Prim.Native.Nat.{ℕ, _≤_}
 use native.Mathlib.Omega.{arith}
 use mathlib.Core.Path.{_≡_, refl, sym, ap, _∙_}
-use mathlib.Core.List.{List, [], _∷_, _++_}
-use mathlib.Core.Bool.{Bool, true, false, not, _&&_, false≢true}
+use mathlib.Core.List.{List, [], _∷_}
+use mathlib.Core.Bool.{Bool, true, false, not, false≢true}
 use lib.Dec.{leb}
 use lib.ListN.{length}
-use borrow.Author.Tests.{leb-true, le-leb}
 use Rattle.text.specs.Sizes.{textSize, workSize, levelCount}
 use Rattle.text.specs.Bytes.{Bytes, same}
-use Rattle.text.specs.Outcome.{Outcome, done, refused, provided, _>>=_, _>>_}
+use Rattle.text.specs.Outcome.{done, provided, _>>=_, _>>_}
 use Rattle.text.specs.Lines.{Refusal, Judged, refusal}
 use Rattle.text.specs.Problem.{Name, Problem, problemOf, isInput, isOutput}
 use Rattle.text.proofs.Laws.{and-left, and-right, same-refl, same-true, Each}
@@ -27,8 +26,8 @@ use Rattle.logic.proofs.Soundness.{makesAt-same}
 use Rattle.logic.proofs.Normal.{clause-noInput}
 use Rattle.replay.specs.Theory.{theoryOf, formulasOf, namesOf, State, live, ended, liveTheory, initial}
 use Rattle.replay.specs.Replay.{Replayed, derivationOf, areClauses, isGround, theoryText, Ground, groundText, groundOf, footerLine}
-use Rattle.replay.specs.Answer.{room, claimed, differenceLine, grounded, replayed, checked}
-use Rattle.replay.specs.Accepted.{Grounds, finalFormulas, finalText, Fits}
+use Rattle.replay.specs.Answer.{differenceLine, grounded, replayed, checked}
+use Rattle.replay.specs.Accepted.{Grounds, finalFormulas, finalText}
 use Rattle.replay.proofs.Soundness.{Live, steps-sound}
 use Rattle.replay.proofs.Derivation.{Derived, derivation-exactly}
 use Rattle.replay.proofs.TheoryText.{ValidTheory, theoryOf-reads}

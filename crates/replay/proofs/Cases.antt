@@ -9,7 +9,7 @@ use Rattle.text.specs.Numbers.{digits, decimal}
 use Rattle.text.specs.Outcome.{Outcome, done, refused, mapped, _>>=_}
 use Rattle.text.specs.Reading.{word, token, readNumber, oneOf, further, separated}
 use Rattle.text.specs.Lines.{Judged}
-use Rattle.text.specs.Problem.{Problem, Predicate, Row, readName}
+use Rattle.text.specs.Problem.{Problem, Predicate, readName}
 use Rattle.text.specs.Derivation.{Rule, SNAND, SNOR, STN, EPRED, IQ}
 use Rattle.logic.specs.Formula.{Formula, replace}
 use Rattle.logic.specs.Text.{textOf}

@@ -1,14 +1,14 @@
 -- What is decided of a formula in memory, and the theory with it done: a rule fits only where a word stands, and flags matter for IQ alone.
 -- Assumes nothing.
-use Prim.Native.Nat.{ℕ, zero, suc, _+_, _≤_, _<_}
+use Prim.Native.Nat.{ℕ, zero, suc, _≤_, _<_}
 use native.Mathlib.Omega.{arith}
 use mathlib.Core.Path.{_≡_, refl, sym, ap, _∙_, subst}
 use mathlib.Core.List.{List, []}
-use mathlib.Core.Bool.{Bool, true, false, not}
+use mathlib.Core.Bool.{Bool, true, false}
 use borrow.Author.Tests.{ltb-true, ltb-false, le-leb, lt-leb}
-use lib.Dec.{ltb, leb}
+use lib.Dec.{ltb}
 use lib.ListN.{length, take, drop, drop-of-length-le}
-use Rattle.text.specs.Outcome.{Outcome, done, refused, provided, _>>=_, _>>_}
+use Rattle.text.specs.Outcome.{Outcome, done, refused}
 use Rattle.text.specs.Derivation.{Position}
 use Rattle.text.specs.declared.table.Table.{Table}
 use Rattle.text.specs.declared.rule_line.Rule.{Rule}
@@ -17,7 +17,7 @@ use Rattle.formula.specs.memory.Kinds.{kindOf}
 use Rattle.formula.specs.memory.Deciding.{junctionFit, negationFit, quantifierFit, predicateFit, propositionFit, ruleFit}
 use Rattle.formula.specs.declared.word.Kind.{Kind}
 use Rattle.formula.proofs.memory.Words.{kind-truth}
-use Rattle.formula.specs.memory.Rewriting.{endWithin, fitWords, rewrittenWords}
+use Rattle.formula.specs.memory.Rewriting.{endWithin, rewrittenWords}
 use Rattle.formula.specs.memory.Admitted.{admittedFlags}
 use Rattle.formula.specs.declared.decide.Fit.{Fit}
 use Rattle.formula.specs.declared.decide.Fit.the-variants as fit

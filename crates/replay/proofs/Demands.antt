@@ -3,16 +3,15 @@
 -- Assumes nothing.
 use Prim.Native.Nat.{ℕ, _≤_}
 use native.Mathlib.Nat.{le-trans}
-use mathlib.Core.Path.{_≡_, refl, sym, ap, _∙_, subst}
+use mathlib.Core.Path.{_≡_, sym, ap, _∙_, subst}
 use mathlib.Core.Logic.{_↔_}
 use mathlib.Core.List.{List, [], _∷_, _++_}
-use mathlib.Core.Bool.{Bool, true, false, not}
-use lib.Dec.{leb}
+use mathlib.Core.Bool.{true, false, not}
 use lib.ListN.{length, drop}
 use borrow.Author.Tests.{le-leb}
-use Rattle.text.specs.Sizes.{textSize, workSize}
-use Rattle.text.specs.Bytes.{Bytes, bytes, same}
-use Rattle.text.specs.Outcome.{Outcome, done, refused, _>>=_}
+use Rattle.text.specs.Sizes.{textSize}
+use Rattle.text.specs.Bytes.{Bytes, same}
+use Rattle.text.specs.Outcome.{done}
 use Rattle.text.specs.Problem.{Problem, problemOf, isInput}
 use Rattle.text.proofs.Laws.{same-refl, Each}
 use Rattle.text.proofs.Outcome.{Allowed, allowed-weaken, allowed-done}
@@ -20,11 +19,11 @@ use Rattle.logic.specs.Formula.{Formula, truth}
 use Rattle.logic.specs.Normal.{mentionsOnly}
 use Rattle.logic.specs.Meaning.{Structure, Extends, satisfies}
 use Rattle.replay.specs.Theory.{theoryOf, ended}
-use Rattle.replay.specs.Replay.{Ground, groundText, groundOf, derivationOf}
+use Rattle.replay.specs.Replay.{Ground, groundText}
 use Rattle.replay.specs.Answer.{grounded, replayed, checked, Result, workAfter, replayResult, checkResult}
 use Rattle.replay.specs.Accepted.{Grounds, finalFormulas, finalText, Fits, Equivalent}
 use Rattle.replay.proofs.Refusals.{replayed-accepts, checked-accepts}
-use Rattle.replay.proofs.Accepted.{groundBy, GroundedBy, derivation-says, derivation-grounds, Judges, grounded-judges, replayed-judges, checked-judges, final-short, final-read, final-same, final-unsat, final-outputs}
+use Rattle.replay.proofs.Accepted.{groundBy, GroundedBy, derivation-grounds, Judges, grounded-judges, replayed-judges, checked-judges, final-short, final-read, final-same, final-unsat, final-outputs}
 
 -- Under the limits a ground text has at most 65,536 bytes.
 pub ground-short : (problem theory derivation : Bytes) → Allowed (λ G. length (groundText G) ≤ textSize) (grounded problem theory derivation)

@@ -1,16 +1,15 @@
 -- A text is replayed exactly if it is the text of a derivation whose lines lead, step by step, from the theory to the last state: by what a line
 -- says of its place, and what is left from each place.
 -- Assumes nothing.
-use Prim.Native.Nat.{ℕ, zero, suc, _+_, _≤_, _<_}
+use Prim.Native.Nat.{ℕ, suc, _+_, _<_}
 use native.Mathlib.Omega.{arith}
-use mathlib.Core.Path.{_≡_, refl, sym, ap, _∙_, subst}
+use mathlib.Core.Path.{_≡_, refl, ap, _∙_}
 use mathlib.Core.Logic.{_↔_}
-use mathlib.Core.List.{List, [], _∷_, _++_, append-assoc, append-nil}
-use mathlib.Core.Bool.{Bool, true, false, _&&_}
+use mathlib.Core.List.{List, [], _∷_, _++_, append-nil}
+use mathlib.Core.Bool.{true}
 use lib.ListN.{length, length-append}
 use Rattle.text.specs.Bytes.{Bytes, bytes}
-use Rattle.text.specs.Outcome.{Outcome, done, refused, mapped}
-use Rattle.text.specs.Lines.{readText}
+use Rattle.text.specs.Outcome.{done, mapped}
 use Rattle.text.specs.Problem.{Problem}
 use Rattle.text.specs.Derivation.{Derivation, RuleLine, rewrite, unsat, trivial, splitc, Line, step, footer, isGrounder, ruleLineFits, ruleLinesFit, lineFits, areNames, derivationFits}
 use Rattle.text.specs.Derivation.{ruleText, positionText, ruleLineText, lineText, versionText, grounderText, ruleLinesText, derivationText, readLine, readVersion, readGrounder}

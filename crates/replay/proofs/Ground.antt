@@ -1,23 +1,22 @@
 -- The final formulas of a derivation: each is well formed and plain, so their text is short and is itself a theory of the problem.
 -- Assumes nothing.
-use Prim.Native.Nat.{ℕ, zero, suc, _+_, _*_, _≤_, _<_}
+use Prim.Native.Nat.{ℕ, suc, _+_, _*_, _≤_, _<_}
 use native.Mathlib.Omega.{arith}
-use mathlib.Core.Path.{_≡_, refl, sym, ap, ap₂, _∙_}
+use mathlib.Core.Path.{_≡_, refl, ap, ap₂}
 use mathlib.Core.List.{List, [], _∷_, _++_, append-assoc}
-use mathlib.Core.Bool.{Bool, true, false, _&&_}
+use mathlib.Core.Bool.{true, false, _&&_}
 use lib.Dec.{leb}
 use lib.ListN.{length, length-append}
 use borrow.Author.Tests.{leb-true, le-leb}
-use Rattle.text.specs.Sizes.{textSize, levelCount, nameSize, variableCount, guardQuantifierCount, formulaCount, theorySize}
-use Rattle.text.specs.Bytes.{Bytes, bytes}
+use Rattle.text.specs.Sizes.{textSize, levelCount, variableCount, guardQuantifierCount, formulaCount, theorySize}
 use Rattle.text.specs.Outcome.{done}
 use Rattle.text.specs.Problem.{Problem}
 use Rattle.text.specs.Derivation.{RuleLine}
 use Rattle.text.proofs.Laws.{and-left, and-right, Each, each-weaken, each-append}
 use Rattle.text.proofs.Problem.{Valid, isOutput-small}
-use Rattle.logic.specs.Formula.{Formula, truth, connective, junction, all, Formulas, noParts, part, size, depth}
+use Rattle.logic.specs.Formula.{Formula, truth, all, Formulas, noParts, part, size}
 use Rattle.logic.specs.Text.{spelled, textOf}
-use Rattle.logic.specs.Names.{none, closed, known, namesFit}
+use Rattle.logic.specs.Names.{none}
 use Rattle.logic.specs.Normal.{isGNF, hasForm, isClause}
 use Rattle.logic.specs.Limits.{guardQuantifiers, variables, theoryVariables, guardsFit, sizeTotal, sizesFit, limitsFit}
 use Rattle.logic.proofs.WellFormed.{WellFormed, ofTruth, AllWellFormed, ofNone, ofPart, wellFormed-parts, wellFormed-tested, tests-wellFormed}
@@ -25,7 +24,7 @@ use Rattle.logic.proofs.Kept.{makesAt-kept}
 use Rattle.logic.proofs.Normal.{isClause-clause}
 use Rattle.logic.proofs.GroundSize.{length-ground}
 use Rattle.logic.proofs.Clauses.{clause-variables, clause-guards, clause-form, clause-spelled}
-use Rattle.replay.specs.Theory.{theoryOf, entry, Theory, formulasOf, numbered, State, live, ended, liveTheory, initial}
+use Rattle.replay.specs.Theory.{theoryOf, formulasOf, numbered, State, live, ended, liveTheory, initial}
 use Rattle.replay.specs.Steps.{Step, rewriting, removing, splitting, ending, Steps, stop, go}
 use Rattle.replay.specs.Replay.{areClauses, isGround, theoryText}
 use Rattle.replay.proofs.Theory.{EachPart}

@@ -1,15 +1,15 @@
 -- The ground theory in memory is the definition's: the theory that was read begins the replay, and what the replay comes to in memory is what it comes to.
 -- Assumes nothing.
-use Prim.Native.Nat.{ℕ, zero, suc, _+_, _-_, _≤_, _<_}
+use Prim.Native.Nat.{ℕ, zero, suc, _+_, _-_, _≤_}
 use native.Mathlib.Omega.{arith}
 use mathlib.Core.Path.{_≡_, refl, sym, ap, ap₂, subst, _∙_}
-use mathlib.Core.List.{List, _∷_, _++_}
-use mathlib.Core.Bool.{Bool, true, false}
+use mathlib.Core.List.{List, _++_}
+use mathlib.Core.Bool.{false}
 use borrow.Rule.Slice.PartMut.{putMid}
 use lib.ListN.{length, take, drop, length-drop}
-use lib.Seq.{slice, take-take, take-at, drop-at, length-take-le, length-front}
+use lib.Seq.{slice, take-at, drop-at, length-take-le, length-front}
 use Rattle.text.specs.Bytes.{Bytes}
-use Rattle.text.specs.Outcome.{Outcome, done, refused, _>>=_}
+use Rattle.text.specs.Outcome.{done, refused, _>>=_}
 use Rattle.text.specs.Lines.{Judged, Refusal, refusal}
 use Rattle.text.specs.Problem.{Name, Problem, problemOf}
 use Rattle.text.specs.memory.Table.{problemIn}
@@ -24,11 +24,10 @@ use Rattle.text.proofs.ProblemLoop.{problem-done, problem-valid, problem-refuse
 use Rattle.text.proofs.Tables.{domain-in}
 use Rattle.logic.specs.Formula.{Formula}
 use Rattle.logic.specs.Meaning.{countFrom}
-use Rattle.formula.specs.memory.ClauseText.{clauseLines}
 use Rattle.formula.specs.memory.Entries.{predicateIndex}
 use Rattle.formula.proofs.memory.Standing.{drop-take}
-use Rattle.replay.specs.Theory.{formulasOf, namesOf, State, liveTheory, initial, theoryOf, stepped}
-use Rattle.replay.specs.Replay.{Replayed, derivationFrom, Ground, groundText, groundOf}
+use Rattle.replay.specs.Theory.{formulasOf, namesOf, liveTheory, initial, theoryOf}
+use Rattle.replay.specs.Replay.{Replayed, derivationFrom, Ground}
 use Rattle.replay.specs.Answer.{grounded}
 use Rattle.replay.specs.memory.Held.{Held, held, steppedIn, endIn}
 use Rattle.replay.specs.memory.Steps.{liveNames, rowsIn, heldIn, Arranged, Few}
@@ -40,7 +39,7 @@ use Rattle.replay.specs.declared.live.Live.{Live}
 use Rattle.replay.specs.declared.live.Layout.{Layout}
 use Rattle.replay.specs.declared.grounding.Grounded.{Grounded}
 use Rattle.replay.proofs.NameLists.{region-length}
-use Rattle.replay.proofs.Regions.{within-front, slice-behind, within-end, end-part, slice-before, part-end, put-end}
+use Rattle.replay.proofs.Regions.{within-front, slice-behind, within-end, end-part, slice-before, put-end}
 use Rattle.replay.proofs.HeldWords.{heldOf, length-names, length-formulas}
 use Rattle.replay.proofs.HeldEnd.{lines-held}
 use Rattle.replay.proofs.HeldReplay.{Ends, held-ends, held-refused, Accepted, end-accepted, end-refused}

@@ -1,13 +1,13 @@
 -- A derivation in memory is the definition's derivation, and what is judged at the end is what the definition judges: by the laws of a rule line, line after line.
 -- Assumes nothing.
-use Prim.Native.Nat.{ℕ, zero, suc, _+_, _≤_}
+use Prim.Native.Nat.{ℕ, _+_, _≤_}
 use native.Mathlib.Omega.{arith}
-use mathlib.Core.Path.{_≡_, refl, sym, ap, ap₂, subst, _∙_}
+use mathlib.Core.Path.{_≡_, refl, sym, ap, _∙_}
 use mathlib.Core.List.{List}
 use mathlib.Core.Bool.{Bool, true, false, cond}
 use lib.ListN.{length}
 use Rattle.text.specs.Bytes.{Bytes, same}
-use Rattle.text.specs.Outcome.{Outcome, done, refused, mapped, provided, _>>=_, _>>_}
+use Rattle.text.specs.Outcome.{done, refused, mapped}
 use Rattle.text.specs.Problem.{Name, Problem}
 use Rattle.text.specs.Lines.{Judged, Refusal, refusal}
 use Rattle.text.specs.Derivation.{Rule, SNAND, SNOR, STN, EPRED, EPROP, IQ, RuleLine, rewrite, unsat, trivial, splitc}
@@ -17,15 +17,14 @@ use Rattle.text.specs.declared.table.Table.{Table}
 use Rattle.text.proofs.Outcome.{Allowed, allowed-done}
 use Rattle.text.proofs.Problem.{Valid}
 use Rattle.formula.specs.memory.Clauses.{allAt, clauseAt}
-use Rattle.formula.specs.memory.ClauseText.{clauseLines}
 use Rattle.formula.proofs.memory.Naming.{Naming}
 use Rattle.replay.specs.Theory.{formulasOf, namesOf, State, live, ended, liveTheory, stepped}
-use Rattle.replay.specs.Replay.{Replayed, derivationFrom, areClauses, isGround, Ground, groundText, footerLine, groundOf}
+use Rattle.replay.specs.Replay.{Replayed, derivationFrom, isGround, groundOf}
 use Rattle.replay.specs.memory.Held.{Held, ruleName, steppedIn, endIn}
 use Rattle.replay.proofs.Simulation.{replayedWith, derivation-alike, derivation-keeps}
-use Rattle.replay.proofs.HeldWords.{heldOf, length-names, length-formulas}
+use Rattle.replay.proofs.HeldWords.{heldOf}
 use Rattle.replay.proofs.Held.{Sound, rewritten-held, removed-held, split-held, refuted-held, stepped-sound}
-use Rattle.replay.proofs.HeldEnd.{clauses-held, lines-held}
+use Rattle.replay.proofs.HeldEnd.{clauses-held}
 
 rule-named : (r : Rule) → ruleOf (ruleName r) ≡ r
 rule-named SNAND = refl

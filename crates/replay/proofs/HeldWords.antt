@@ -1,7 +1,7 @@
 -- The words of the live formulas, one formula after the other, and what memory holds of a state. Each formula is passed over whole, so that so many
 -- formulas are found by counting; the length is the size, so that the limits of the live formulas are those of two lengths.
 -- Assumes nothing.
-use Prim.Native.Nat.{ℕ, _+_, _≤_}
+use Prim.Native.Nat.{ℕ, _≤_}
 use mathlib.Core.Path.{_≡_, refl, sym, ap, _∙_}
 use mathlib.Core.List.{List, [], _∷_, _++_, append-assoc, map-append}
 use mathlib.Core.Bool.{Bool, true, false, _&&_, and-true}

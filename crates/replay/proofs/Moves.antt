@@ -2,7 +2,7 @@
 -- Assumes nothing.
 use Prim.Native.Nat.{ℕ, _+_, _-_, _≤_, _<_}
 use native.Mathlib.Omega.{arith}
-use mathlib.Core.Path.{_≡_, refl, sym, ap, ap₂, subst, _∙_}
+use mathlib.Core.Path.{_≡_, sym, ap, ap₂, subst, _∙_}
 use mathlib.Core.List.{List, [], _∷_, _++_}
 use mathlib.Core.Bool.{Bool, true, false}
 use borrow.Rule.Slice.PartMut.{putMid}
@@ -13,7 +13,7 @@ use Rattle.formula.specs.memory.Storing.{spliced}
 use Rattle.formula.specs.memory.Rewriting.{endWithin, rewrittenWords}
 use Rattle.formula.specs.declared.decide.Fit.{Fit}
 use Rattle.replay.specs.memory.Held.{Held, held, exchanged, sizedIn, openedIn}
-use Rattle.replay.specs.memory.Steps.{liveNames, rowsIn, heldIn, Arranged, Few, Moved, ToldStep, Roomy, Fronted}
+use Rattle.replay.specs.memory.Steps.{liveNames, heldIn, Arranged, Few, Moved, ToldStep, Roomy, Fronted}
 use Rattle.replay.specs.declared.live.Live.{Live}
 use Rattle.replay.specs.declared.live.Layout.{Layout}
 use Rattle.replay.specs.declared.live.Step.{Step}

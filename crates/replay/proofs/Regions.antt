@@ -1,16 +1,16 @@
 -- Parts of working memory: what a write to one part leaves in the others, and what it makes of the front.
 -- Assumes nothing.
-use Prim.Native.Nat.{ℕ, suc, zero, _+_, _-_, _≤_, _<_}
+use Prim.Native.Nat.{ℕ, _+_, _-_, _≤_, _<_}
 use native.Mathlib.Nat.{zero-add}
 use native.Mathlib.Omega.{arith}
-use mathlib.Core.Path.{_≡_, refl, sym, ap, ap₂, _∙_}
-use mathlib.Core.List.{List, [], _∷_, _++_, append-assoc, append-nil}
+use mathlib.Core.Path.{_≡_, sym, ap, ap₂, _∙_}
+use mathlib.Core.List.{List, _++_, append-assoc, append-nil}
 use borrow.Rule.Slice.PartMut.{putMid, post-is}
 use mathlib.Core.Bool.{Bool}
-use lib.ListN.{length, getD, take, drop, set, length-append, length-drop}
-use lib.Seq.{slice, sets, drop-length, length-take-le, take-all, take-take, drop-drop, take-append-le, drop-append-add, take-append-add, drop-append-le, take-at, drop-at, getD-take, length-sets, sets-eq, length-slice}
+use lib.ListN.{length, take, drop, length-append, length-drop}
+use lib.Seq.{slice, sets, drop-length, length-take-le, take-all, take-take, drop-drop, take-append-le, drop-append-add, take-at, drop-at, getD-take, length-sets, sets-eq, length-slice}
 use Rattle.formula.specs.memory.Kinds.{skip}
-use Rattle.formula.specs.memory.Storing.{Stores, spliced, Placed, Rewritten}
+use Rattle.formula.specs.memory.Storing.{spliced, Placed}
 use Rattle.formula.specs.memory.Rewriting.{endWithin, fitWords, rewrittenWords}
 use Rattle.formula.specs.declared.decide.Fit.{Fit}
 use Rattle.formula.proofs.memory.Kinds.{skip-within}

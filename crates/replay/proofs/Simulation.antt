@@ -1,15 +1,15 @@
 -- A replay over one kind of states is that over another, where what a rule line does to the one is what it does to the other: line by line.
 -- Assumes nothing.
 use Prim.Native.Nat.{ℕ, zero, suc}
-use mathlib.Core.Path.{_≡_, refl, sym, ap, _∙_}
-use mathlib.Core.List.{List, [], _∷_}
+use mathlib.Core.Path.{_≡_, refl, ap, _∙_}
+use mathlib.Core.List.{[], _∷_}
 use lib.ListN.{length}
 use Rattle.text.specs.Bytes.{Bytes}
 use Rattle.text.specs.Outcome.{Outcome, done, refused, mapped, _>>=_}
 use Rattle.text.specs.Reading.{Reader}
-use Rattle.text.specs.Lines.{Judged, Refusal, onLine, readLines, readText}
+use Rattle.text.specs.Lines.{onLine, readLines}
 use Rattle.text.specs.Derivation.{RuleLine, Line, step, footer, readLine, readVersion, readGrounder}
-use Rattle.text.proofs.Outcome.{Allowed, allowed-mapped, allowed-bind}
+use Rattle.text.proofs.Outcome.{Allowed, allowed-mapped}
 use Rattle.text.proofs.Lines.{readText-keeps}
 use Rattle.replay.specs.Replay.{Place, top, heading, among, bottom, Replayed, wholeDerivation, lineDone, derivationLine, derivationFrom}
 

@@ -1,17 +1,17 @@
 -- What every rule keeps of a formula, every line keeps of each live formula; and what it keeps of its meaning, of the theory's.
 -- Assumes nothing.
 use Prim.Native.Nat.{ℕ}
-use mathlib.Core.Path.{_≡_, refl, sym, ap, _∙_}
+use mathlib.Core.Path.{_≡_, refl, ap, _∙_}
 use mathlib.Core.List.{List, [], _∷_, _++_}
 use mathlib.Core.Bool.{Bool, true, false, _&&_, and-true, and-false}
 use Rattle.text.specs.Problem.{Problem}
 use Rattle.text.specs.Derivation.{Rule, RuleLine}
 use Rattle.text.proofs.Laws.{Each}
-use Rattle.logic.specs.Formula.{Formula, truth, connective, junction, all, Formulas, noParts, part}
+use Rattle.logic.specs.Formula.{Formula, truth, connective, junction, all, Formulas, part}
 use Rattle.logic.specs.Meaning.{Structure, nowhere, holds, truths, joinAll, satisfies}
 use Rattle.logic.specs.Tables.{MakesAt}
-use Rattle.replay.specs.Theory.{entry, Theory, formulasOf, State, live, ended, liveTheory}
-use Rattle.replay.specs.Steps.{Named, Step, rewriting, removing, splitting, ending, Steps, stop, go}
+use Rattle.replay.specs.Theory.{entry, formulasOf, State, liveTheory}
+use Rattle.replay.specs.Steps.{Step, rewriting, removing, splitting, ending, Steps, stop, go}
 use Rattle.replay.proofs.Theory.{EachPart, each-append, each-front, each-back, each-named, satisfies-append, satisfies-around, satisfies-named}
 
 abbrev pub Live : (Formula → Type 0) → State → Type 0

@@ -1,21 +1,20 @@
 -- The rules that take no path, in memory: one law for each answer.
 -- Assumes nothing.
-use Prim.Native.Nat.{ℕ, zero, suc, _+_, _≤_, _<_}
+use Prim.Native.Nat.{ℕ, _+_, _≤_, _<_}
 use native.Mathlib.Omega.{arith}
 use mathlib.Core.Path.{_≡_, refl, sym, ap, _∙_, subst}
 use mathlib.Core.List.{List, [], _∷_}
-use mathlib.Core.Bool.{Bool, true, false, not, _&&_, false≢true}
+use mathlib.Core.Bool.{Bool, true, false, false≢true}
 use borrow.Author.Tests.{eq-eqb, ne-eqb, le-leb, lt-leb, ltb-true, ltb-false}
 use lib.Dec.{eqb, ltb}
 use lib.ListN.{length, getD, take, length-take, List·getD-eq-default}
 use Rattle.text.specs.Bytes.{Bytes}
-use Rattle.text.specs.Outcome.{Outcome, done, refused, provided, _>>=_, _>>_}
+use Rattle.text.specs.Outcome.{done, refused}
 use Rattle.text.specs.Derivation.{Position}
 use Rattle.text.specs.memory.Numbers.{numbersAt}
 use Rattle.formula.specs.memory.Kinds.{kindOf}
 use Rattle.formula.specs.declared.word.Sign.{Sign}
 use Rattle.formula.specs.declared.word.Sign.the-variants.{Junction}
-use Rattle.formula.specs.declared.word.Kind.the-variants as kind
 use Rattle.formula.proofs.memory.Words.{kind-truth}
 use Rattle.replay.specs.Theory.{climbing, highest}
 use Rattle.replay.specs.memory.Held.{Held, held, wholeIn, openedIn, removedIn, isConjunction, isSplit, splitIn, refutedIn}

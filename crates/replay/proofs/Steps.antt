@@ -1,24 +1,24 @@
 -- A rule line on a state, as the function has it, is a step of the relation, and each step of the relation is the function's: by what stands
 -- around the formula that the line names.
 -- Assumes nothing.
-use Prim.Native.Nat.{ℕ, zero, suc}
-use mathlib.Core.Path.{_≡_, refl, sym, ap, _∙_, subst}
-use mathlib.Core.List.{List, [], _∷_, _++_, append-assoc}
-use mathlib.Core.Bool.{Bool, true, false, cond, not, _&&_, false≢true}
+use Prim.Native.Nat.{ℕ}
+use mathlib.Core.Path.{_≡_, refl, ap}
+use mathlib.Core.List.{List, [], _∷_, _++_}
+use mathlib.Core.Bool.{Bool, true, false, cond, not}
 use lib.Dec.{eqb}
 use borrow.Author.Tests.{eqb-true, eq-eqb, not-true}
 use Rattle.text.specs.Outcome.{Outcome, done, refused, mapped, provided, _>>=_, _>>_}
 use Rattle.text.specs.Problem.{Problem}
-use Rattle.text.specs.Derivation.{Position, Rule, RuleLine, rewrite, unsat, trivial, splitc}
+use Rattle.text.specs.Derivation.{Rule, RuleLine, rewrite, unsat, trivial, splitc}
 use Rattle.text.proofs.Laws.{and-left, and-right}
 use Rattle.text.proofs.Outcome.{Allowed, allowed-mapped, allowed-bind, allowed-weaken, allowed-provided}
-use Rattle.logic.specs.Formula.{Formula, truth, atom, equal, connective, quantifier, Formulas, noParts, part, Side, all, any, Connective, negation, implies, impliedBy, equivalent, junction}
+use Rattle.logic.specs.Formula.{Formula, truth, connective, Formulas, noParts, part, Side, all, any, junction}
 use Rattle.logic.specs.Limits.{sizesFit}
 use Rattle.logic.specs.Rules.{isTruth, apply, at}
 use Rattle.logic.specs.Tables.{AtPath, MakesAt}
 use Rattle.logic.proofs.Rules.{onJunction-cases, isTruth-true}
 use Rattle.logic.proofs.Tables.{at-path, path-never, at-makes, makes-at}
-use Rattle.replay.specs.Theory.{Entry, entry, Theory, formulasOf, State, live, ended, liveTheory, greatestUsed, inPlace, unlessEnded, wholeOnly, removed, refuted, namedParts, splitParts, split, climbing, highest, within, stepped}
+use Rattle.replay.specs.Theory.{entry, Theory, formulasOf, State, live, ended, liveTheory, inPlace, wholeOnly, removed, refuted, namedParts, splitParts, split, climbing, highest, within, stepped}
 use Rattle.replay.specs.Steps.{position, absent, Named, nobody, somebody, Step, rewriting, removing, splitting, ending}
 
 -- a formula of that name stands in a theory, and what Q says it may become stands in its place in another

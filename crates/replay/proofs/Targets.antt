@@ -5,12 +5,12 @@ use native.Mathlib.Nat.{zero-add}
 use native.Mathlib.Omega.{arith}
 use mathlib.Core.Path.{_≡_, refl, sym, ap, _∙_, subst}
 use mathlib.Core.List.{List, [], _∷_}
-use mathlib.Core.Bool.{Bool, true, false, cond, not}
+use mathlib.Core.Bool.{Bool, true, false, cond}
 use borrow.Author.Tests.{eq-eqb, ne-eqb}
 use lib.Dec.{eqb}
 use lib.ListN.{length}
 use Rattle.text.specs.Bytes.{Bytes}
-use Rattle.text.specs.Outcome.{Outcome, done, refused, mapped, provided, _>>=_, _>>_}
+use Rattle.text.specs.Outcome.{Outcome, done, refused, mapped}
 use Rattle.text.specs.Derivation.{Position}
 use Rattle.text.specs.memory.Numbers.{numbersAt}
 use Rattle.formula.specs.memory.Kinds.{skip}

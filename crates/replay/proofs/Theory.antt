@@ -3,11 +3,11 @@
 use Prim.Native.Nat.{ℕ}
 use mathlib.Core.Path.{_≡_, refl, sym, ap, _∙_}
 use mathlib.Core.List.{List, [], _∷_, _++_}
-use mathlib.Core.Bool.{Bool, true, false, _&&_, and-assoc, and-false}
+use mathlib.Core.Bool.{Bool, _&&_, and-assoc}
 use Rattle.text.proofs.Laws.{Each}
 use Rattle.logic.specs.Formula.{Formula, Formulas, noParts, part, all}
 use Rattle.logic.specs.Meaning.{Structure, nowhere, holds, truths, joinAll, satisfies}
-use Rattle.replay.specs.Theory.{Entry, entry, Theory, formulasOf}
+use Rattle.replay.specs.Theory.{Theory, formulasOf}
 use Rattle.replay.specs.Steps.{Named, nobody, somebody}
 
 -- each part of a list of parts

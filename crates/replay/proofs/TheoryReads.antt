@@ -25,7 +25,7 @@ use Rattle.logic.specs.Formula.{Formula, partsOf, size}
 use Rattle.logic.specs.Limits.{differentCount, namesShort, guardQuantifiers, theoryVariables, guardsFit, sizeTotal, sizesFit, limitsFit}
 use Rattle.formula.specs.memory.Words.{words, allWords}
 use Rattle.formula.specs.memory.NameTable.{extendedBy, indexIn, namesIn, listFits}
-use Rattle.formula.specs.memory.Entries.{Memory, memory}
+use Rattle.formula.specs.memory.Entries.{Memory}
 use Rattle.formula.specs.memory.TheoryLines.{readLine, LineFound, ToldLine}
 use Rattle.formula.specs.declared.theory_line.LineRead.{LineRead}
 use Rattle.formula.specs.declared.theory_line.LineRead.the-variants as line

@@ -1,21 +1,20 @@
 -- A theory that is read has one text, and each of its formulas passed the tests of its line; and the text of formulas that pass them is read as
 -- these formulas: line by line.
 -- Assumes nothing.
-use Prim.Native.Nat.{ℕ, zero, suc, _+_, _≤_, _<_}
+use Prim.Native.Nat.{_<_}
 use native.Mathlib.Omega.{arith}
-use mathlib.Core.Path.{_≡_, refl, sym, ap, _∙_}
+use mathlib.Core.Path.{_≡_, refl, ap}
 use mathlib.Core.List.{List, [], _∷_, _++_, append-assoc, append-nil}
-use mathlib.Core.Bool.{Bool, true, false, _&&_}
+use mathlib.Core.Bool.{true}
 use lib.ListN.{length, length-append}
 use Rattle.text.specs.Sizes.{levelCount, theorySize, formulaCount}
 use Rattle.text.specs.Bytes.{Bytes, bytes}
-use Rattle.text.specs.Outcome.{Outcome, done, refused}
-use Rattle.text.specs.Reading.{word}
+use Rattle.text.specs.Outcome.{done}
 use Rattle.text.specs.Problem.{Problem}
 use Rattle.text.proofs.Laws.{and-left, Each, each-append}
 use Rattle.text.proofs.Outcome.{Allowed, allowed-weaken}
 use Rattle.text.proofs.Reading.{Reads, reads-then, reads-give, reads-weaken, reads-word, reads-require, read-word}
-use Rattle.text.proofs.Lines.{readText-reads, Run, rest, run-more, RunsTo, readText-exactly}
+use Rattle.text.proofs.Lines.{readText-reads, Run, rest, run-more, readText-exactly}
 use Rattle.logic.specs.Formula.{Formula}
 use Rattle.logic.specs.Text.{textOf}
 use Rattle.logic.specs.Names.{namesFit}

@@ -2,11 +2,11 @@
 use Prim.Native.Nat.{ℕ, _≤_}
 use mathlib.Core.Path.{_≡_}
 use mathlib.Core.List.{List}
-use mathlib.Core.Bool.{Bool, true, false}
+use mathlib.Core.Bool.{true}
 use lib.ListN.{length}
 use Rattle.text.specs.Sizes.{textSize, workSize}
 use Rattle.text.specs.Bytes.{Bytes}
-use Rattle.text.specs.Outcome.{Outcome, done}
+use Rattle.text.specs.Outcome.{done}
 use Rattle.text.specs.Problem.{Problem, problemOf}
 use Rattle.text.specs.Derivation.{Derivation, derivationFits, derivationText}
 use Rattle.logic.specs.Formula.{Formula}

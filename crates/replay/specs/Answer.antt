@@ -1,13 +1,13 @@
 -- The jobs' answers, and what they leave in lent memory. The statement's table of numbers, in the order in which they are decided.
-use Prim.Native.Nat.{ℕ, suc, zero, _+_}
+use Prim.Native.Nat.{ℕ, _+_}
 use mathlib.Core.List.{List, [], _∷_, _++_}
-use mathlib.Core.Bool.{Bool, true, false, cond}
+use mathlib.Core.Bool.{cond}
 use lib.Dec.{eqb, leb}
 use lib.ListN.{length, drop, replicate}
 use Rattle.text.specs.Sizes.{textSize, workSize}
 use Rattle.text.specs.Bytes.{Bytes, same}
-use Rattle.text.specs.Outcome.{Outcome, done, refused, provided, _>>=_, _>>_}
-use Rattle.text.specs.Lines.{Refusal, refusal, Judged, isLF}
+use Rattle.text.specs.Outcome.{done, refused, provided, _>>=_, _>>_}
+use Rattle.text.specs.Lines.{refusal, Judged, isLF}
 use Rattle.text.specs.Problem.{problemOf}
 use Rattle.replay.specs.Theory.{theoryOf}
 use Rattle.replay.specs.Replay.{Ground, groundText, groundOf, derivationOf}

@@ -1,13 +1,12 @@
 -- The replay of a derivation's lines, with 10 to 15; footer 16, ground clauses 17; the ground text.
-use Prim.Native.Nat.{ℕ, suc, zero, _+_}
+use Prim.Native.Nat.{ℕ, suc, _+_}
 use mathlib.Core.List.{List, [], _∷_, _++_}
-use mathlib.Core.Bool.{Bool, true, false, _&&_}
-use lib.ListN.{length}
+use mathlib.Core.Bool.{Bool, true}
 use Rattle.text.specs.Bytes.{Bytes, bytes, same, every}
 use Rattle.text.specs.Outcome.{Outcome, done, refused, mapped, provided, _>>=_, _>>_}
 use Rattle.text.specs.Reading.{Reader, give, refuse, judge}
 use Rattle.text.specs.Reading as reading
-use Rattle.text.specs.Lines.{Judged, refusal, onLine, readText}
+use Rattle.text.specs.Lines.{Judged, refusal, readText}
 use Rattle.text.specs.Problem.{Problem}
 use Rattle.text.specs.Derivation.{RuleLine, Line, step, footer, readLine, readVersion, readGrounder}
 use Rattle.logic.specs.Formula.{Formula}

@@ -1,5 +1,5 @@
 -- The theory's text and names; the rule lines on it, with 11 to 15.
-use Prim.Native.Nat.{ℕ, suc, zero}
+use Prim.Native.Nat.{ℕ, suc}
 use mathlib.Core.List.{List, [], _∷_, _++_, map}
 use mathlib.Core.Bool.{Bool, true, false, cond, _&&_}
 use lib.Dec.{eqb, ltb}
@@ -11,7 +11,7 @@ use Rattle.text.specs.Reading.{Reader, give, require, word}
 use Rattle.text.specs.Reading as reading
 use Rattle.text.specs.Lines.{Judged, readText}
 use Rattle.text.specs.Problem.{Problem}
-use Rattle.text.specs.Derivation.{Position, RuleLine, rewrite, unsat, trivial, splitc}
+use Rattle.text.specs.Derivation.{RuleLine, rewrite, unsat, trivial, splitc}
 use Rattle.logic.specs.Formula.{Formula, truth, Formulas, noParts, part, Side, all, any}
 use Rattle.logic.specs.Reading.{readFormula}
 use Rattle.logic.specs.Names.{namesFit}

@@ -1,18 +1,18 @@
 -- Rows as numbers: a number and the row that it stands for tell each other, so a row is among others as its number is among theirs; and
 -- a row's rank, its elements read as digits, orders rows of one length as they are ordered element by element.
 -- Assumes nothing.
-use Prim.Native.Nat.{ℕ, suc, zero, _+_, _*_, _/_, _%_, _≤_, _<_}
+use Prim.Native.Nat.{ℕ, suc, zero, _+_, _*_, _/_, _%_, _<_}
 use native.Mathlib.Omega.{arith}
 use mathlib.Core.Path.{_≡_, refl, sym, ap, ap₂, _∙_}
 use mathlib.Core.List.{List, [], _∷_, _++_, map}
-use mathlib.Core.Bool.{Bool, true, false, _&&_, _||_, false≢true}
-use lib.Dec.{eqb, leb, ltb}
+use mathlib.Core.Bool.{Bool, true, false, _&&_, _||_}
+use lib.Dec.{eqb, ltb}
 use lib.ListN.{length}
-use borrow.Author.Tests.{eq-eqb, ne-eqb, eqb-true, eqb-false, lt-ltb, le-ltb, ltb-true, ltb-false, leb-true}
+use borrow.Author.Tests.{eq-eqb, eqb-true, eqb-false, lt-ltb, le-ltb, ltb-true, ltb-false}
 use Rattle.text.specs.Bytes.{same, member}
-use Rattle.text.specs.Problem.{Row, before, isElement, rowFits, rowsFit}
+use Rattle.text.specs.Problem.{Row, before}
 use Rattle.text.specs.memory.Table.{packed, unpacked, placed, among, rankAfter, ranked}
-use Rattle.text.proofs.Laws.{and-left, and-right, same-refl, same-true, Each}
+use Rattle.text.proofs.Laws.{same-refl, same-true, Each}
 
 -- elements that are digits
 abbrev pub Digits : Row → Type 0

@@ -1,6 +1,6 @@
 -- Rows at a place of a text: elements and tuples, each read and kept behind those before it.
 -- Assumes nothing.
-use Prim.Native.Nat.{ℕ, _+_, _≤_, _<_}
+use Prim.Native.Nat.{ℕ, _+_, _≤_}
 use native.Mathlib.Omega.{arith}
 use mathlib.Core.Path.{_≡_, refl}
 use mathlib.Core.List.{List, [], _∷_, _++_}
@@ -9,8 +9,8 @@ use Rattle.text.specs.Bytes as bytes
 use Rattle.text.specs.Bytes.{Bytes}
 use Rattle.text.specs.Reading.{readNumber}
 use Rattle.text.specs.Problem.{Row}
-use Rattle.text.specs.memory.Found.{Found, Refused}
-use Rattle.text.specs.memory.Numbers.{beyond, NumberFound, SmallFound, LargeFound, ToldNumber}
+use Rattle.text.specs.memory.Found.{Refused}
+use Rattle.text.specs.memory.Numbers.{NumberFound, ToldNumber}
 use Rattle.text.specs.memory.Table.{packed, rankAfter}
 use Rattle.text.specs.memory.Rows.{ToldRow, RowBounded, RowMore, ElementFound, ToldElement, readTuple, ToldTuple, ToldRows, RowsBounded, RowsMore, ToldTuples}
 use Rattle.text.specs.declared.number.Number.the-variants as number

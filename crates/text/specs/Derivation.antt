@@ -1,7 +1,7 @@
 -- Derivation lines: their text, and their reading with number 10.
-use Prim.Native.Nat.{ℕ, suc, zero}
+use Prim.Native.Nat.{ℕ}
 use mathlib.Core.List.{List, [], _∷_, _++_, map}
-use mathlib.Core.Bool.{Bool, true, false, _&&_}
+use mathlib.Core.Bool.{Bool, false, _&&_}
 use lib.Dec.{leb}
 use lib.ListN.{length}
 use Rattle.text.specs.Sizes.{greatestName, greatestPathNumber, grounderSize}

@@ -1,7 +1,7 @@
 -- Lines: a text read line by line, a line's place, the refused line.
-use Prim.Native.Nat.{ℕ, suc, zero, _+_}
-use mathlib.Core.List.{List, [], _∷_}
-use mathlib.Core.Bool.{Bool, true, false, cond}
+use Prim.Native.Nat.{ℕ, suc, zero}
+use mathlib.Core.List.{[], _∷_}
+use mathlib.Core.Bool.{Bool, cond}
 use lib.Dec.{eqb}
 use lib.ListN.{length, take, drop}
 use Rattle.text.specs.Bytes.{Bytes}

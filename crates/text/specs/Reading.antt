@@ -1,11 +1,10 @@
 -- Readers: what each finds at the head of a text, with the rest of it, or the number that it refuses with.
 use Prim.Native.Nat.{ℕ, suc, zero}
-use Prim.Native.String.{String}
 use mathlib.Core.List.{List, [], _∷_}
 use mathlib.Core.Bool.{Bool, cond}
 use lib.Dec.{eqb}
 use lib.ListN.{length, drop}
-use Rattle.text.specs.Bytes.{Bytes, bytes, next, begins, span, isDigit}
+use Rattle.text.specs.Bytes.{Bytes, next, begins, span, isDigit}
 use Rattle.text.specs.Numbers.{isNumber, value}
 use Rattle.text.specs.Outcome.{Outcome, done, refused, mapped, provided}
 use Rattle.text.specs.Outcome as outcome

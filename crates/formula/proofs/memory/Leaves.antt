@@ -1,10 +1,10 @@
 -- Truth values, equalities and atoms at a place of the theory's text: what the definitions read there, by what the code has seen.
 -- Assumes nothing.
-use Prim.Native.Nat.{ℕ, zero, suc, _+_, _-_, _*_, _≤_, _<_}
+use Prim.Native.Nat.{ℕ, suc, _+_, _-_, _*_, _≤_}
 use native.Mathlib.Omega.{arith}
-use mathlib.Core.Path.{_≡_, refl, sym, ap, ap₂, subst, _∙_}
+use mathlib.Core.Path.{_≡_, refl, sym, ap, _∙_}
 use mathlib.Core.List.{List, [], _∷_, _++_, append-nil}
-use mathlib.Core.Bool.{Bool, true, false, cond, _&&_, and-true}
+use mathlib.Core.Bool.{Bool, true, false, _&&_, and-true}
 use lib.Dec.{eqb}
 use lib.ListN.{length, take, drop, set}
 use lib.Seq.{drop-drop}
@@ -15,23 +15,22 @@ use Rattle.text.specs.Outcome as outcome
 use Rattle.text.specs.Reading.{Reader, give, word, oneOf, _⇒_, separated}
 use Rattle.text.specs.Problem.{Name, Problem, predicates, declared, isInput, readName}
 use Rattle.text.proofs.Laws.{and-right}
-use Rattle.logic.specs.Formula.{Term, Terms, noTerms, term, termsOf, termCount, Formula, truth, atom, equal, size}
+use Rattle.logic.specs.Formula.{Term, Terms, noTerms, termsOf, termCount, Formula, truth, atom, equal, size}
 use Rattle.logic.specs.Text.{truthText}
 use Rattle.logic.specs.Reading.{readTerm, readEquality, readArguments, readAtom}
-use Rattle.logic.specs.Names.{termKnown, termsKnown, known, termClosed, termsClosed}
-use Rattle.logic.specs.Limits.{termVariables, termsVariables, variables}
+use Rattle.logic.specs.Names.{termKnown, known, termClosed}
+use Rattle.logic.specs.Limits.{termVariables, variables}
 use Rattle.formula.specs.memory.Words.{truthWord, words}
 use Rattle.formula.specs.memory.NameTable.{extendedBy}
-use Rattle.formula.specs.memory.Facts.{factsOf, simpleFacts}
+use Rattle.formula.specs.memory.Facts.{simpleFacts}
 use Rattle.formula.specs.memory.Lists.{upTo}
-use Rattle.formula.specs.memory.Entries.{Setting, setting, Memory, memory, Entered}
+use Rattle.formula.specs.memory.Entries.{Setting, setting, Memory, memory}
 use Rattle.formula.specs.memory.TermReads.{WordFound, TermsTaken, TermsFound, closedUpTo, readTermList}
 use Rattle.formula.specs.memory.FormulaReads.{Found, Told, readLeaf}
-use Rattle.formula.specs.declared.fact.Facts.{Facts}
 use Rattle.formula.specs.declared.read.Read.{Read}
 use Rattle.formula.specs.declared.read.Read.the-variants as read
 use Rattle.formula.proofs.memory.Facts.{facts-truth, facts-atom, facts-equal}
-use Rattle.formula.proofs.memory.Lists.{begins-first, begins-other, byte-first, begins-within, readPair, pair-list}
+use Rattle.formula.proofs.memory.Lists.{begins-first, begins-other, byte-first, begins-within, pair-list}
 use Rattle.formula.proofs.memory.Entries.{entered-alike, entered-header}
 
 -- what one reader reads at a place is what another reads further on

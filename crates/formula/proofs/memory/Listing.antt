@@ -1,7 +1,7 @@
 -- The naming by two lists of names, each name having its place in its list for an index. With a problem's predicates, memory can hold every formula that
 -- the problem knows and whose variables are in the list.
 -- Assumes nothing.
-use Prim.Native.Nat.{ℕ, suc, _+_, _≤_, _<_}
+use Prim.Native.Nat.{ℕ, suc, _≤_, _<_}
 use native.Mathlib.Omega.{arith}
 use mathlib.Core.Path.{_≡_, refl, sym, ap, _∙_}
 use mathlib.Core.List.{List, [], _∷_, _++_, map}

@@ -9,14 +9,14 @@ use mathlib.Core.Path.{_≡_, refl, sym, ap, ap₂, _∙_}
 use mathlib.Core.List.{List, [], _∷_, _++_}
 use mathlib.Core.Bool.{Bool, true, false, cond, _||_, or-true, or-assoc, false≢true}
 use lib.Dec.{leb, ltb, leb·suc-suc}
-use lib.ListN.{length, getD, take, drop, set, length-append, length-set}
+use lib.ListN.{length, getD, take, drop, set, length-set}
 use lib.Seq.{getD-set-same, getD-set-other}
 use borrow.Author.Tests.{le-leb, lt-leb, lt-ltb, le-ltb}
 use Rattle.text.specs.Sizes.{nameSize, variableCount}
 use Rattle.text.specs.Bytes.{Bytes, same, member}
 use Rattle.text.specs.Problem.{Name}
 use Rattle.text.specs.memory.Table.{position, indexed}
-use Rattle.text.proofs.Laws.{or-left, or-right, same-refl, Each, each-weaken}
+use Rattle.text.proofs.Laws.{or-left, or-right, same-refl, Each}
 use Rattle.logic.specs.Limits.{namesShort}
 use Rattle.formula.specs.memory.NameTable.{settled, extended, extendedBy, indexIn, nameIn, namesIn, withName, Listed, listFits}
 

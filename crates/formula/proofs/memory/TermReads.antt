@@ -1,6 +1,6 @@
 -- Words and terms at a place of the theory's text: what the definitions read there, by what the code has seen.
 -- Assumes nothing.
-use Prim.Native.Nat.{ℕ, zero, suc, _+_, _-_, _*_, _≤_, _<_}
+use Prim.Native.Nat.{ℕ, suc, _+_, _-_, _*_, _≤_, _<_}
 use native.Mathlib.Omega.{arith}
 use mathlib.Core.Path.{_≡_, refl, sym, ap, ap₂, subst, _∙_}
 use mathlib.Core.List.{List, [], _∷_, _++_, append-nil, append-assoc}
@@ -9,14 +9,14 @@ use lib.Dec.{leb}
 use lib.ListN.{length, take, drop, set, length-append, length-drop}
 use lib.Seq.{take-append-seam, drop-drop}
 use borrow.Author.Tests.{lt-leb, eq-eqb, ne-eqb}
-use Rattle.text.specs.Bytes.{Bytes, bytes, next, same, every, span, isDigit, isCapital, isSmall, isSmallOrDigit, isLetterOrDigit}
+use Rattle.text.specs.Bytes.{Bytes, bytes, next, same, span, isDigit, isCapital, isSmall, isSmallOrDigit, isLetterOrDigit}
 use Rattle.text.specs.Numbers.{isNumber, value}
 use Rattle.text.specs.Outcome.{Outcome, done, refused, mapped, provided}
 use Rattle.text.specs.Outcome as outcome
 use Rattle.text.specs.Reading.{Reader, token, readNumber}
 use Rattle.text.specs.Problem.{Name, isElement, isName, readName}
 use Rattle.text.specs.memory.Numbers.{SmallFound, LargeFound}
-use Rattle.text.proofs.Laws.{or-left, or-right, Each}
+use Rattle.text.proofs.Laws.{or-left, Each}
 use Rattle.text.proofs.Outcome.{Allowed}
 use Rattle.text.proofs.Reading.{span-split}
 use Rattle.logic.specs.Text.{isVariable}

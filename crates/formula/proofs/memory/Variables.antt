@@ -1,7 +1,7 @@
 -- The variables' table against the limits of a theory: it has as many names as there are different ones, as far as there is room, and they are
 -- short if all are.
 -- Assumes nothing.
-use Prim.Native.Nat.{ℕ, zero, suc, _+_, _≤_, _<_, min}
+use Prim.Native.Nat.{ℕ, suc, _+_, _≤_, _<_, min}
 use native.Mathlib.Omega.{arith}
 use mathlib.Core.Path.{_≡_, refl, sym, ap, _∙_}
 use mathlib.Core.List.{List, [], _∷_, _++_}
@@ -14,7 +14,7 @@ use Rattle.text.specs.Bytes.{same, member}
 use Rattle.text.specs.Problem.{Name}
 use Rattle.text.proofs.Laws.{same-refl, same-true}
 use Rattle.logic.specs.Limits.{differentCount, namesShort}
-use Rattle.formula.specs.memory.NameTable.{settled, extended, extendedBy, listFits}
+use Rattle.formula.specs.memory.NameTable.{extended, extendedBy, listFits}
 use Rattle.formula.proofs.memory.NameTable.{member-append}
 
 -- how many different names of a list are not in a table

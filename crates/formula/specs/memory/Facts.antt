@@ -1,5 +1,5 @@
 -- What is told of a formula, or of formulas, as they are read, by the definitions; and how what is told of parts is put together.
-use Prim.Native.Nat.{ℕ, suc, _+_, max}
+use Prim.Native.Nat.{_+_, max}
 use mathlib.Core.Bool.{Bool, true, false, _&&_}
 use Rattle.text.specs.Problem.{Name, Problem, isInput}
 use Rattle.logic.specs.Formula.{Side, all, any, Connective, negation, implies, impliedBy, equivalent, junction, Formula, Formulas, noParts, part}

@@ -2,7 +2,6 @@
 use Prim.Native.Nat.{ℕ, _+_, _≤_, _<_}
 use mathlib.Core.Path.{_≡_}
 use mathlib.Core.Bool.{Bool, true, false}
-use lib.Dec.{eqb}
 use lib.ListN.{length, drop}
 use Rattle.text.specs.Bytes.{Bytes, bytes, next, begins}
 use Rattle.text.specs.Reading.{Reader, oneOf}
@@ -10,7 +9,6 @@ use Rattle.logic.specs.Formula.{Connective, negation, implies, impliedBy, equiv
 use Rattle.logic.specs.Reading.{readAtom, readNegation, readTwo, readJunction, readQuantifier, formulaKinds}
 use Rattle.formula.specs.memory.Stored.{sideOf, connectiveOf}
 use Rattle.formula.specs.memory.FormulaReads.{readLeaf}
-use Rattle.formula.specs.declared.word.Sign.{Sign}
 use Rattle.formula.specs.declared.word.Sign.the-variants.{Negation, Implies, ImpliedBy, Equivalent, Junction}
 use Rattle.formula.specs.declared.opening.Opening.{Opening}
 use Rattle.formula.specs.declared.opening.Opening.the-variants as opening

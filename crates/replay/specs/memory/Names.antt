@@ -1,8 +1,8 @@
 -- What the code tells of lists of names.
-use Prim.Native.Nat.{ℕ, zero, suc}
+use Prim.Native.Nat.{ℕ, suc}
 use mathlib.Core.Path.{_≡_}
 use mathlib.Core.List.{List, [], _∷_}
-use mathlib.Core.Bool.{Bool, true, false, cond}
+use mathlib.Core.Bool.{true, false, cond}
 use lib.Dec.{eqb}
 use Rattle.replay.specs.Theory.{climbing, highest}
 use Rattle.replay.specs.declared.names.Climb.{Climb}

@@ -1,6 +1,5 @@
 -- `runs::bytes_lent` answers a count within the output.
 -- Assumes nothing.
-use borrow.Author.Needs.{needs}
 use mathlib.Core.Path.{sym}
 use native.Mathlib.Omega.{arith}
 use lib.Seq.{length-take-le}

@@ -1,6 +1,5 @@
 -- `runs::numbers_lent` answers a count within working memory.
 -- Assumes nothing.
-use borrow.Author.Needs.{needs}
 use mathlib.Core.Path.{sym}
 use native.Mathlib.Omega.{arith}
 use lib.Seq.{length-take-le}

@@ -21,37 +21,10 @@ Inv-loop work at levels table rows variable domain none flags₀ i₀ flags i =
 abbrev μ-loop : tie.MeasureT-loop
 μ-loop work at levels table rows variable domain none flags₀ i₀ flags i = table .domain - i
 
-peek-requires : tie.Need-peek-requires Inv-loop μ-loop
-peek-requires c κs = search needs
-
 loop-holds : tie.Need-loop-holds Inv-loop μ-loop
 loop-holds c =
     let e : c .before .before .before .args .table .domain ≡ c .before .before .before .args .table .domain - 0 = omega arith in
     (omega arith, rw (← e))
-
-add-with-value : tie.Need-add-with-value Inv-loop μ-loop
-add-with-value c = search needs
-
-with-value-requires : tie.Need-with-value-requires Inv-loop μ-loop
-with-value-requires c κs = search needs
-
-add-evaluate : tie.Need-add-evaluate Inv-loop μ-loop
-add-evaluate c = search needs
-
-evaluate-requires : tie.Need-evaluate-requires Inv-loop μ-loop
-evaluate-requires c κs = search needs
-
-cast-flags : tie.Need-cast-flags Inv-loop μ-loop
-cast-flags c = search needs
-
-array-write-flags : tie.Need-array-write-flags Inv-loop μ-loop
-array-write-flags c = search needs
-
-add-i : tie.Need-add-i Inv-loop μ-loop
-add-i c = search needs
-
-loop-less : tie.Need-loop-less Inv-loop μ-loop
-loop-less c = search needs
 
 loop-again : tie.Need-loop-again Inv-loop μ-loop
 loop-again c =
@@ -80,15 +53,15 @@ admitted-spec =
     (tie.spec
     Inv-loop
     μ-loop
-    peek-requires
+    (λ c κs. search needs)
     loop-holds
-    add-with-value
-    with-value-requires
-    add-evaluate
-    evaluate-requires
-    cast-flags
-    array-write-flags
-    add-i
-    loop-less
+    (λ c. search needs)
+    (λ c κs. search needs)
+    (λ c. search needs)
+    (λ c κs. search needs)
+    (λ c. search needs)
+    (λ c. search needs)
+    (λ c. search needs)
+    (λ c. search needs)
     loop-again
     returns)

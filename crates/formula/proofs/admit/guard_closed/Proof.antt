@@ -11,18 +11,6 @@ use Rattle.formula.proofs.memory.Admitted.{closed-here}
 use Rattle.formula.proofs.admit.guard_closed.Statement.{statement}
 use Rattle.formula.proofs.admit.guard_closed.Tie as tie
 
-peek-requires : tie.Need-peek-requires
-peek-requires c κs = search needs
-
-with-flag-requires : tie.Need-with-flag-requires
-with-flag-requires c κs = search needs
-
-add-closed-at : tie.Need-add-closed-at
-add-closed-at c = search needs
-
-closed-at-requires : tie.Need-closed-at-requires
-closed-at-requires c κs = search needs
-
 returns : tie.Need-returns
 returns c =
     let a = c .before .before .before .before .args in
@@ -31,4 +19,4 @@ returns c =
 
 pub guard-closed-spec : {M : Type 1} → statement M
 guard-closed-spec =
-    tie.close (tie.spec peek-requires with-flag-requires add-closed-at closed-at-requires returns)
+    tie.close (tie.spec (λ c κs. search needs) (λ c κs. search needs) (λ c. search needs) (λ c κs. search needs) returns)

@@ -2,8 +2,7 @@
 -- Assumes nothing.
 use borrow.Author.Needs.{needs}
 use native.Mathlib.Omega.{arith}
-use Prim.Native.Nat.{ℕ, _-_, _≤_, _<_}
-use mathlib.Core.Path.{_≡_, refl, sym, ap, _∙_}
+use mathlib.Core.Path.{_≡_, refl, sym, _∙_}
 use lib.ListN.{take, drop}
 use Rattle.text.specs.Bytes.{member}
 use Rattle.formula.specs.memory.Bindings.{scopeName, namesBelow, boundIn}
@@ -17,28 +16,16 @@ Inv-loop text scope at size name i₀ i = (name ≡ take size (drop at text)) ×
 abbrev μ-loop : tie.MeasureT-loop
 μ-loop text scope at size name i₀ i = i
 
-part-requires : tie.Need-part-requires Inv-loop μ-loop
-part-requires c κs = search needs
-
 loop-holds : tie.Need-loop-holds Inv-loop μ-loop
 unfolding boundIn
 loop-holds c =
     (c .part .ensures, refl)
-
-sub-i : tie.Need-sub-i Inv-loop μ-loop
-sub-i c = search needs
-
-is-bound-at-requires : tie.Need-is-bound-at-requires Inv-loop μ-loop
-is-bound-at-requires c κs = search needs
 
 returns : tie.Need-returns Inv-loop μ-loop
 returns c =
     let a = c .before .before .before .before .before .before .args in
     let l = c .before .before .before .loop in
     rw (← l .inv .0) (sym (l .inv .1 ∙ below-here (c .before .before .before .before .part .result .now) (scopeName (a .text .now) (a .scope)) (l .i) (omega arith) (sym (c .before .is-bound-at .ensures) ∙ c .if1 .taken)))
-
-loop-less : tie.Need-loop-less Inv-loop μ-loop
-loop-less c = search needs
 
 loop-again : tie.Need-loop-again Inv-loop μ-loop
 loop-again c =
@@ -58,11 +45,11 @@ is-bound-spec =
     (tie.spec
     Inv-loop
     μ-loop
-    part-requires
+    (λ c κs. search needs)
     loop-holds
-    sub-i
-    is-bound-at-requires
+    (λ c. search needs)
+    (λ c κs. search needs)
     returns
-    loop-less
+    (λ c. search needs)
     loop-again
     returns-2)

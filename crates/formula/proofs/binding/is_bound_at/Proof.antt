@@ -1,25 +1,13 @@
 -- `binding::is_bound_at` compares a name with the part of the text that the scope has at an index.
 -- Assumes nothing.
 use borrow.Author.Needs.{needs}
-use mathlib.Core.Path.{_≡_, refl, _∙_}
+use mathlib.Core.Path.{_∙_}
 use Rattle.formula.proofs.binding.is_bound_at.Statement.{statement}
 use Rattle.formula.proofs.binding.is_bound_at.Tie as tie
-
-entry-requires : tie.Need-entry-requires
-entry-requires c κs = search needs
-
-entry-requires-2 : tie.Need-entry-requires-2
-entry-requires-2 c κs = search needs
-
-part-requires : tie.Need-part-requires
-part-requires c κs = search needs
-
-equal-requires : tie.Need-equal-requires
-equal-requires c κs = search needs
 
 returns : tie.Need-returns
 returns c = c .equal .ensures ∙ rw (c .before .part .ensures, c .before .before .before .entry .ensures, c .before .before .entry2 .ensures)
 
 pub is-bound-at-spec : {M : Type 1} → statement M
 is-bound-at-spec =
-    tie.close (tie.spec entry-requires entry-requires-2 part-requires equal-requires returns)
+    tie.close (tie.spec (λ c κs. search needs) (λ c κs. search needs) (λ c κs. search needs) (λ c κs. search needs) returns)

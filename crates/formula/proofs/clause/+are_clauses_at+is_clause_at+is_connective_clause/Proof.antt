@@ -103,23 +103,11 @@ is-connective-clause-calls t = (is-ground-atom-at-reads.Asked, is-ground-atom-at
 are-clauses-at-loop-holds : (t : ℕ) → are-clauses-at-lts.Need-loop-holds (are-clauses-at-calls t) (are-clauses-at-at t) are-clauses-at.Post are-clauses-at-Inv-loop are-clauses-at-μ-loop
 are-clauses-at-loop-holds t c = (omega arith, refl)
 
-are-clauses-at-is-clause-at-requires : (t : ℕ) → are-clauses-at-lts.Need-is-clause-at-requires (are-clauses-at-calls t) (are-clauses-at-at t) are-clauses-at.Post are-clauses-at-Inv-loop are-clauses-at-μ-loop
-are-clauses-at-is-clause-at-requires t c κs = search needs
-
 are-clauses-at-returns : (t : ℕ) → are-clauses-at-lts.Need-returns (are-clauses-at-calls t) (are-clauses-at-at t) are-clauses-at.Post are-clauses-at-Inv-loop are-clauses-at-μ-loop
 are-clauses-at-returns t c =
     let a = c .before .before .before .before .before .args in
     let l = c .before .before .before .loop in
     sym (l .inv .1 ∙ all-stop (a .work .now) (l .i) (l .pending) (c .before .before .loop-test .taken) (clauseAt (a .table) (a .levels)) (sym (c .before .is-clause-at .ensures) ∙ not-true _ (c .if1 .taken)))
-
-are-clauses-at-past-requires : (t : ℕ) → are-clauses-at-lts.Need-past-requires (are-clauses-at-calls t) (are-clauses-at-at t) are-clauses-at.Post are-clauses-at-Inv-loop are-clauses-at-μ-loop
-are-clauses-at-past-requires t c κs = search needs
-
-are-clauses-at-sub-pending : (t : ℕ) → are-clauses-at-lts.Need-sub-pending (are-clauses-at-calls t) (are-clauses-at-at t) are-clauses-at.Post are-clauses-at-Inv-loop are-clauses-at-μ-loop
-are-clauses-at-sub-pending t c = search needs
-
-are-clauses-at-loop-less : (t : ℕ) → are-clauses-at-lts.Need-loop-less (are-clauses-at-calls t) (are-clauses-at-at t) are-clauses-at.Post are-clauses-at-Inv-loop are-clauses-at-μ-loop
-are-clauses-at-loop-less t c = search needs
 
 are-clauses-at-loop-again : (t : ℕ) → are-clauses-at-lts.Need-loop-again (are-clauses-at-calls t) (are-clauses-at-at t) are-clauses-at.Post are-clauses-at-Inv-loop are-clauses-at-μ-loop
 are-clauses-at-loop-again t c =
@@ -146,45 +134,6 @@ is-clause-at-returns-2 : (t : ℕ) → is-clause-at-lts.Need-returns-2 (is-claus
 is-clause-at-returns-2 t c =
     let a = c .before .before .before .args in
     clause-beyond (a .table) (a .work .now) (a .at) (a .levels) (c .if2 .taken)
-
-is-clause-at-add-next : (t : ℕ) → is-clause-at-lts.Need-add-next (is-clause-at-calls t) (is-clause-at-at t) is-clause-at.Post
-is-clause-at-add-next t c = search needs
-
-is-clause-at-mul-kind-of : (t : ℕ) → is-clause-at-lts.Need-mul-kind-of (is-clause-at-calls t) (is-clause-at-at t) is-clause-at.Post
-is-clause-at-mul-kind-of t c = search needs
-
-is-clause-at-shared-slice-read-kind-of : (t : ℕ) → is-clause-at-lts.Need-shared-slice-read-kind-of (is-clause-at-calls t) (is-clause-at-at t) is-clause-at.Post
-is-clause-at-shared-slice-read-kind-of t c = search needs
-
-is-clause-at-kind-of-requires : (t : ℕ) → is-clause-at-lts.Need-kind-of-requires (is-clause-at-calls t) (is-clause-at-at t) is-clause-at.Post
-is-clause-at-kind-of-requires t c κs = search needs
-
-is-clause-at-enum-told : (t : ℕ) → is-clause-at-lts.Need-enum-told (is-clause-at-calls t) (is-clause-at-at t) is-clause-at.Post
-is-clause-at-enum-told t c = search needs
-
-is-clause-at-enum-known-predicate : (t : ℕ) → is-clause-at-lts.Need-enum-known-predicate (is-clause-at-calls t) (is-clause-at-at t) is-clause-at.Post
-is-clause-at-enum-known-predicate t c = search needs
-
-is-clause-at-is-ground-requires : (t : ℕ) → is-clause-at-lts.Need-is-ground-requires (is-clause-at-calls t) (is-clause-at-at t) is-clause-at.Post
-is-clause-at-is-ground-requires t c κs = search needs
-
-is-clause-at-enum-told-2 : (t : ℕ) → is-clause-at-lts.Need-enum-told-2 (is-clause-at-calls t) (is-clause-at-at t) is-clause-at.Post
-is-clause-at-enum-told-2 t c = search needs
-
-is-clause-at-enum-known-sign : (t : ℕ) → is-clause-at-lts.Need-enum-known-sign (is-clause-at-calls t) (is-clause-at-at t) is-clause-at.Post
-is-clause-at-enum-known-sign t c = search needs
-
-is-clause-at-sub-is-connective-clause : (t : ℕ) → is-clause-at-lts.Need-sub-is-connective-clause (is-clause-at-calls t) (is-clause-at-at t) is-clause-at.Post
-is-clause-at-sub-is-connective-clause t c = search needs
-
-is-clause-at-is-connective-clause-requires : (t : ℕ) → is-clause-at-lts.Need-is-connective-clause-requires (is-clause-at-calls t) (is-clause-at-at t) is-clause-at.Post
-is-clause-at-is-connective-clause-requires t c κs = search needs
-
-is-clause-at-enum-told-3 : (t : ℕ) → is-clause-at-lts.Need-enum-told-3 (is-clause-at-calls t) (is-clause-at-at t) is-clause-at.Post
-is-clause-at-enum-told-3 t c = search needs
-
-is-clause-at-enum-told-4 : (t : ℕ) → is-clause-at-lts.Need-enum-told-4 (is-clause-at-calls t) (is-clause-at-at t) is-clause-at.Post
-is-clause-at-enum-told-4 t c = search needs
 
 is-clause-at-returns-3 : (t : ℕ) → is-clause-at-lts.Need-returns-3 (is-clause-at-calls t) (is-clause-at-at t) is-clause-at.Post
 is-clause-at-returns-3 t c =
@@ -216,28 +165,10 @@ is-clause-at-returns-8 t c =
     let a = c .before .before .before .before .before .before .before .args in
     sym (clause-kind (a .table) (a .work .now) (a .at) (a .levels) _ (c .before .before .before .before .before .if1 .left) (c .before .before .before .before .if2 .left) (sym (c .before .before .kind-of .ensures) ∙ c .enum-told4 .given .1))
 
-is-connective-clause-enum-told : (t : ℕ) → is-connective-clause-lts.Need-enum-told (is-connective-clause-calls t) (is-connective-clause-at t) is-connective-clause.Post
-is-connective-clause-enum-told t c = search needs
-
 is-connective-clause-returns : (t : ℕ) → is-connective-clause-lts.Need-returns (is-connective-clause-calls t) (is-connective-clause-at t) is-connective-clause.Post
 is-connective-clause-returns t c =
     let a = c .before .before .before .before .args in
     negation-other (a .table) (clauseAt (a .table) (a .levels)) _ (a .count) (drop (a .at) (a .work .now)) (c .before .enum-told .given .1) (c .if1 .taken)
-
-is-connective-clause-is-ground-atom-at-requires : (t : ℕ) → is-connective-clause-lts.Need-is-ground-atom-at-requires (is-connective-clause-calls t) (is-connective-clause-at t) is-connective-clause.Post
-is-connective-clause-is-ground-atom-at-requires t c κs = search needs
-
-is-connective-clause-enum-told-2 : (t : ℕ) → is-connective-clause-lts.Need-enum-told-2 (is-connective-clause-calls t) (is-connective-clause-at t) is-connective-clause.Post
-is-connective-clause-enum-told-2 t c = search needs
-
-is-connective-clause-enum-told-3 : (t : ℕ) → is-connective-clause-lts.Need-enum-told-3 (is-connective-clause-calls t) (is-connective-clause-at t) is-connective-clause.Post
-is-connective-clause-enum-told-3 t c = search needs
-
-is-connective-clause-enum-told-4 : (t : ℕ) → is-connective-clause-lts.Need-enum-told-4 (is-connective-clause-calls t) (is-connective-clause-at t) is-connective-clause.Post
-is-connective-clause-enum-told-4 t c = search needs
-
-is-connective-clause-enum-known-sign : (t : ℕ) → is-connective-clause-lts.Need-enum-known-sign (is-connective-clause-calls t) (is-connective-clause-at t) is-connective-clause.Post
-is-connective-clause-enum-known-sign t c = search needs
 
 is-connective-clause-returns-2 : (t : ℕ) → is-connective-clause-lts.Need-returns-2 (is-connective-clause-calls t) (is-connective-clause-at t) is-connective-clause.Post
 is-connective-clause-returns-2 t c =
@@ -248,9 +179,6 @@ is-connective-clause-returns-3 : (t : ℕ) → is-connective-clause-lts.Need-ret
 is-connective-clause-returns-3 t c =
     let a = c .before .before .before .before .before .before .args in
     junction-none (a .table) (clauseAt (a .table) (a .levels)) _ (a .count) (drop (a .at) (a .work .now)) _ (c .before .before .before .sign .given .1) (c .before .if2 .left) (c .if3 .taken)
-
-is-connective-clause-are-clauses-at-requires : (t : ℕ) → is-connective-clause-lts.Need-are-clauses-at-requires (is-connective-clause-calls t) (is-connective-clause-at t) is-connective-clause.Post
-is-connective-clause-are-clauses-at-requires t c κs = search needs
 
 is-connective-clause-returns-4 : (t : ℕ) → is-connective-clause-lts.Need-returns-4 (is-connective-clause-calls t) (is-connective-clause-at t) is-connective-clause.Post
 is-connective-clause-returns-4 t c =
@@ -285,11 +213,11 @@ pub +are-clauses-at+is-clause-at+is-connective-clause-spec : {M : Type 1} → st
     are-clauses-at-Inv-loop
     are-clauses-at-μ-loop
     (are-clauses-at-loop-holds t)
-    (are-clauses-at-is-clause-at-requires t)
+    (λ c κs. search needs)
     (are-clauses-at-returns t)
-    (are-clauses-at-past-requires t)
-    (are-clauses-at-sub-pending t)
-    (are-clauses-at-loop-less t)
+    (λ c κs. search needs)
+    (λ c. search needs)
+    (λ c. search needs)
     (are-clauses-at-loop-again t)
     (are-clauses-at-returns-2 t))
     (λ t. is-clause-at-lts.spec (is-clause-at-calls t)
@@ -297,19 +225,19 @@ pub +are-clauses-at+is-clause-at+is-connective-clause-spec : {M : Type 1} → st
     is-clause-at.Post
     (is-clause-at-returns t)
     (is-clause-at-returns-2 t)
-    (is-clause-at-add-next t)
-    (is-clause-at-mul-kind-of t)
-    (is-clause-at-shared-slice-read-kind-of t)
-    (is-clause-at-kind-of-requires t)
-    (is-clause-at-enum-told t)
-    (is-clause-at-enum-known-predicate t)
-    (is-clause-at-is-ground-requires t)
-    (is-clause-at-enum-told-2 t)
-    (is-clause-at-enum-known-sign t)
-    (is-clause-at-sub-is-connective-clause t)
-    (is-clause-at-is-connective-clause-requires t)
-    (is-clause-at-enum-told-3 t)
-    (is-clause-at-enum-told-4 t)
+    (λ c. search needs)
+    (λ c. search needs)
+    (λ c. search needs)
+    (λ c κs. search needs)
+    (λ c. search needs)
+    (λ c. search needs)
+    (λ c κs. search needs)
+    (λ c. search needs)
+    (λ c. search needs)
+    (λ c. search needs)
+    (λ c κs. search needs)
+    (λ c. search needs)
+    (λ c. search needs)
     (is-clause-at-returns-3 t)
     (is-clause-at-returns-4 t)
     (is-clause-at-returns-5 t)
@@ -319,16 +247,16 @@ pub +are-clauses-at+is-clause-at+is-connective-clause-spec : {M : Type 1} → st
     λ t. is-connective-clause-lts.spec (is-connective-clause-calls t)
     (is-connective-clause-at t)
     is-connective-clause.Post
-    (is-connective-clause-enum-told t)
+    (λ c. search needs)
     (is-connective-clause-returns t)
-    (is-connective-clause-is-ground-atom-at-requires t)
-    (is-connective-clause-enum-told-2 t)
-    (is-connective-clause-enum-told-3 t)
-    (is-connective-clause-enum-told-4 t)
-    (is-connective-clause-enum-known-sign t)
+    (λ c κs. search needs)
+    (λ c. search needs)
+    (λ c. search needs)
+    (λ c. search needs)
+    (λ c. search needs)
     (is-connective-clause-returns-2 t)
     (is-connective-clause-returns-3 t)
-    (is-connective-clause-are-clauses-at-requires t)
+    (λ c κs. search needs)
     (is-connective-clause-returns-4 t)
     (is-connective-clause-returns-5 t)
     (is-connective-clause-returns-6 t)

@@ -9,16 +9,10 @@ use Rattle.formula.specs.memory.Clauses.{elementsAt}
 use Rattle.formula.proofs.clause.is_ground.Statement.{statement}
 use Rattle.formula.proofs.clause.is_ground.Tie as tie
 
-is-output-requires : tie.Need-is-output-requires
-is-output-requires c κs = search needs
-
 returns : tie.Need-returns
 returns c =
     let a = c .before .before .before .args in
     sym (ap (λ (b : Bool). b && elementsAt (a .count) (drop (a .at) (a .work .now))) (sym (c .before .is-output .ensures) ∙ not-true _ (c .if1 .taken)))
-
-are-elements-requires : tie.Need-are-elements-requires
-are-elements-requires c κs = search needs
 
 returns-2 : tie.Need-returns-2
 returns-2 c =
@@ -26,4 +20,4 @@ returns-2 c =
     c .are-elements .ensures ∙ sym (ap (λ (b : Bool). b && elementsAt (a .count) (drop (a .at) (a .work .now))) (sym (c .before .before .is-output .ensures) ∙ not-false _ (c .before .if1 .left)))
 
 pub is-ground-spec : {M : Type 1} → statement M
-is-ground-spec = tie.close (tie.spec is-output-requires returns are-elements-requires returns-2)
+is-ground-spec = tie.close (tie.spec (λ c κs. search needs) returns (λ c κs. search needs) returns-2)

@@ -6,36 +6,6 @@ use Rattle.formula.proofs.memory.Clauses.{ground-kind}
 use Rattle.formula.proofs.clause.is_ground_atom_at.Statement.{statement}
 use Rattle.formula.proofs.clause.is_ground_atom_at.Tie as tie
 
-peek-requires : tie.Need-peek-requires
-peek-requires c κs = search needs
-
-kind-of-requires : tie.Need-kind-of-requires
-kind-of-requires c κs = search needs
-
-enum-told : tie.Need-enum-told
-enum-told c = search needs
-
-enum-known-predicate : tie.Need-enum-known-predicate
-enum-known-predicate c = search needs
-
-add-is-ground : tie.Need-add-is-ground
-add-is-ground c = search needs
-
-is-ground-requires : tie.Need-is-ground-requires
-is-ground-requires c κs = search needs
-
-enum-told-2 : tie.Need-enum-told-2
-enum-told-2 c = search needs
-
-enum-told-3 : tie.Need-enum-told-3
-enum-told-3 c = search needs
-
-enum-told-4 : tie.Need-enum-told-4
-enum-told-4 c = search needs
-
-enum-told-5 : tie.Need-enum-told-5
-enum-told-5 c = search needs
-
 returns : tie.Need-returns
 returns c =
     let a = c .before .before .before .before .before .args in
@@ -70,16 +40,16 @@ pub is-ground-atom-at-spec : {M : Type 1} → statement M
 is-ground-atom-at-spec =
     tie.close
     (tie.spec
-    peek-requires
-    kind-of-requires
-    enum-told
-    enum-known-predicate
-    add-is-ground
-    is-ground-requires
-    enum-told-2
-    enum-told-3
-    enum-told-4
-    enum-told-5
+    (λ c κs. search needs)
+    (λ c κs. search needs)
+    (λ c. search needs)
+    (λ c. search needs)
+    (λ c. search needs)
+    (λ c κs. search needs)
+    (λ c. search needs)
+    (λ c. search needs)
+    (λ c. search needs)
+    (λ c. search needs)
     returns
     returns-2
     returns-3

@@ -5,19 +5,10 @@ use Rattle.formula.proofs.memory.Cursor.{print-one}
 use Rattle.formula.proofs.cursor.emit.Statement.{statement}
 use Rattle.formula.proofs.cursor.emit.Tie as tie
 
-put-if-requires : tie.Need-put-if-requires
-put-if-requires c κs = search needs
-
-moved-requires : tie.Need-moved-requires
-moved-requires c κs = search needs
-
-same-length : tie.Need-same-length
-same-length c = search needs
-
 returns : tie.Need-returns
 returns c =
     let a = c .before .before .before .before .before .before .before .args in
     print-one (a .claim .now) (a .store) (a .cursor) _ (a .out .now) _ (a .b) (c .moved .ensures) (c .before .before .before .put-if .ensures)
 
 pub emit-spec : {M : Type 1} → statement M
-emit-spec = tie.close (tie.spec put-if-requires moved-requires same-length returns)
+emit-spec = tie.close (tie.spec (λ c κs. search needs) (λ c κs. search needs) (λ c. search needs) returns)

@@ -20,18 +20,6 @@ abbrev μ-loop : tie.MeasureT-loop
 loop-holds : tie.Need-loop-holds Inv-loop μ-loop
 loop-holds c = (omega arith, refl, remains-all)
 
-shared-slice-read-emit : tie.Need-shared-slice-read-emit Inv-loop μ-loop
-shared-slice-read-emit c = search needs
-
-emit-requires : tie.Need-emit-requires Inv-loop μ-loop
-emit-requires c κs = search needs
-
-add-i : tie.Need-add-i Inv-loop μ-loop
-add-i c = search needs
-
-loop-less : tie.Need-loop-less Inv-loop μ-loop
-loop-less c = search needs
-
 loop-again : tie.Need-loop-again Inv-loop μ-loop
 loop-again c =
     let a = c .before .before .before .before .before .before .before .before .before .before .args in
@@ -53,10 +41,10 @@ emit-all-spec =
     Inv-loop
     μ-loop
     loop-holds
-    shared-slice-read-emit
-    emit-requires
-    add-i
-    loop-less
+    (λ c. search needs)
+    (λ c κs. search needs)
+    (λ c. search needs)
+    (λ c. search needs)
     loop-again
     same-length
     returns)

@@ -8,16 +8,10 @@ use Rattle.formula.proofs.memory.Cursor.{agrees-before, agrees-here, cu
 use Rattle.formula.proofs.cursor.moved.Statement.{statement}
 use Rattle.formula.proofs.cursor.moved.Tie as tie
 
-more-requires : tie.Need-more-requires
-more-requires c κs = search needs
-
 returns : tie.Need-returns
 returns c =
     let a = c .before .before .before .before .args in
     cursor-other (a .claim .now) (a .cursor) (a .b) _ (c .before .before .more .ensures) (agrees-before (a .claim .now) (a .cursor) (a .b) (not-true _ (c .if1 .taken)))
-
-stands-requires : tie.Need-stands-requires
-stands-requires c κs = search needs
 
 returns-2 : tie.Need-returns-2
 returns-2 c =
@@ -32,15 +26,6 @@ returns-3 c =
     (agrees-here (a .claim .now) (a .cursor) (a .b) true (not-false _ (c .before .before .before .if1 .left)) (sym (c .before .before .stands .ensures) ∙ not-false _ (c .before .if2 .left)))
     (c .if3 .taken)
 
-cast-more : tie.Need-cast-more
-cast-more c = search needs
-
-more-requires-2 : tie.Need-more-requires-2
-more-requires-2 c κs = search needs
-
-cast-t11 : tie.Need-cast-t11
-cast-t11 c = search needs
-
 returns-4 : tie.Need-returns-4
 returns-4 c =
     let a = c .before .before .before .before .before .before .before .before .args in
@@ -52,12 +37,12 @@ pub moved-spec : {M : Type 1} → statement M
 moved-spec =
     tie.close
     (tie.spec
-    more-requires
+    (λ c κs. search needs)
     returns
-    stands-requires
+    (λ c κs. search needs)
     returns-2
     returns-3
-    cast-more
-    more-requires-2
-    cast-t11
+    (λ c. search needs)
+    (λ c κs. search needs)
+    (λ c. search needs)
     returns-4)

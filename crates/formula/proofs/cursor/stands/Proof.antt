@@ -5,9 +5,6 @@ use Rattle.formula.proofs.memory.Cursor.{first-within, first-beyond}
 use Rattle.formula.proofs.cursor.stands.Statement.{statement}
 use Rattle.formula.proofs.cursor.stands.Tie as tie
 
-shared-slice-read-result : tie.Need-shared-slice-read-result
-shared-slice-read-result c = search needs
-
 returns : tie.Need-returns
 returns c = first-within (c .before .before .args .text .now) (c .before .before .args .at) (c .before .before .args .b) (c .before .if1 .taken)
 
@@ -15,4 +12,4 @@ returns-2 : tie.Need-returns-2
 returns-2 c = first-beyond (c .before .args .text .now) (c .before .args .at) (c .before .args .b) (c .if1 .left)
 
 pub stands-spec : {M : Type 1} → statement M
-stands-spec = tie.close (tie.spec shared-slice-read-result returns returns-2)
+stands-spec = tie.close (tie.spec (λ c. search needs) returns returns-2)

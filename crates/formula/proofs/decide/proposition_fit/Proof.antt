@@ -5,29 +5,8 @@ use borrow.Author.Tests.{eq-eqb, ne-eqb}
 use Rattle.formula.proofs.decide.proposition_fit.Statement.{statement}
 use Rattle.formula.proofs.decide.proposition_fit.Tie as tie
 
-enum-told : tie.Need-enum-told
-enum-told c = search needs
-
-enum-known-kind : tie.Need-enum-known-kind
-enum-known-kind c = search needs
-
-input-fit-requires : tie.Need-input-fit-requires
-input-fit-requires c κs = search needs
-
 returns : tie.Need-returns
 returns c = rw (c .before .before .before .kind .given .1) (rw (eq-eqb _ 0 (c .before .if1 .taken)) (c .input-fit .ensures))
-
-enum-told-2 : tie.Need-enum-told-2
-enum-told-2 c = search needs
-
-enum-told-3 : tie.Need-enum-told-3
-enum-told-3 c = search needs
-
-enum-told-4 : tie.Need-enum-told-4
-enum-told-4 c = search needs
-
-enum-told-5 : tie.Need-enum-told-5
-enum-told-5 c = search needs
 
 returns-2 : tie.Need-returns-2
 returns-2 c = rw (c .enum-told .given .1)
@@ -51,14 +30,14 @@ pub proposition-fit-spec : {M : Type 1} → statement M
 proposition-fit-spec =
     tie.close
     (tie.spec
-    enum-told
-    enum-known-kind
-    input-fit-requires
+    (λ c. search needs)
+    (λ c. search needs)
+    (λ c κs. search needs)
     returns
-    enum-told-2
-    enum-told-3
-    enum-told-4
-    enum-told-5
+    (λ c. search needs)
+    (λ c. search needs)
+    (λ c. search needs)
+    (λ c. search needs)
     returns-2
     returns-3
     returns-4

@@ -10,57 +10,6 @@ use Rattle.formula.proofs.memory.Deciding.{kind-here, kind-next}
 use Rattle.formula.proofs.decide.rule_fit.Statement.{statement}
 use Rattle.formula.proofs.decide.rule_fit.Tie as tie
 
-peek-requires : tie.Need-peek-requires
-peek-requires c κs = search needs
-
-kind-of-requires : tie.Need-kind-of-requires
-kind-of-requires c κs = search needs
-
-enum-told : tie.Need-enum-told
-enum-told c = search needs
-
-junction-fit-requires : tie.Need-junction-fit-requires
-junction-fit-requires c κs = search needs
-
-enum-told-2 : tie.Need-enum-told-2
-enum-told-2 c = search needs
-
-junction-fit-requires-2 : tie.Need-junction-fit-requires-2
-junction-fit-requires-2 c κs = search needs
-
-enum-told-3 : tie.Need-enum-told-3
-enum-told-3 c = search needs
-
-add-peek : tie.Need-add-peek
-add-peek c = search needs
-
-peek-requires-2 : tie.Need-peek-requires-2
-peek-requires-2 c κs = search needs
-
-kind-of-requires-2 : tie.Need-kind-of-requires-2
-kind-of-requires-2 c κs = search needs
-
-negation-fit-requires : tie.Need-negation-fit-requires
-negation-fit-requires c κs = search needs
-
-enum-told-4 : tie.Need-enum-told-4
-enum-told-4 c = search needs
-
-predicate-fit-requires : tie.Need-predicate-fit-requires
-predicate-fit-requires c κs = search needs
-
-enum-told-5 : tie.Need-enum-told-5
-enum-told-5 c = search needs
-
-proposition-fit-requires : tie.Need-proposition-fit-requires
-proposition-fit-requires c κs = search needs
-
-enum-told-6 : tie.Need-enum-told-6
-enum-told-6 c = search needs
-
-quantifier-fit-requires : tie.Need-quantifier-fit-requires
-quantifier-fit-requires c κs = search needs
-
 returns : tie.Need-returns
 returns c =
     let a = c .before .before .before .before .before .before .before .args in
@@ -101,23 +50,23 @@ pub rule-fit-spec : {M : Type 1} → statement M
 rule-fit-spec =
     tie.close
     (tie.spec
-    peek-requires
-    kind-of-requires
-    enum-told
-    junction-fit-requires
-    enum-told-2
-    junction-fit-requires-2
-    enum-told-3
-    add-peek
-    peek-requires-2
-    kind-of-requires-2
-    negation-fit-requires
-    enum-told-4
-    predicate-fit-requires
-    enum-told-5
-    proposition-fit-requires
-    enum-told-6
-    quantifier-fit-requires
+    (λ c κs. search needs)
+    (λ c κs. search needs)
+    (λ c. search needs)
+    (λ c κs. search needs)
+    (λ c. search needs)
+    (λ c κs. search needs)
+    (λ c. search needs)
+    (λ c. search needs)
+    (λ c κs. search needs)
+    (λ c κs. search needs)
+    (λ c κs. search needs)
+    (λ c. search needs)
+    (λ c κs. search needs)
+    (λ c. search needs)
+    (λ c κs. search needs)
+    (λ c. search needs)
+    (λ c κs. search needs)
     returns
     returns-2
     returns-3

@@ -7,19 +7,10 @@ use Rattle.formula.proofs.memory.Deciding.{value-misfit, value-fits}
 use Rattle.formula.proofs.decide.value_fit.Statement.{statement}
 use Rattle.formula.proofs.decide.value_fit.Tie as tie
 
-add-elements-only : tie.Need-add-elements-only
-add-elements-only c = search needs
-
-elements-only-requires : tie.Need-elements-only-requires
-elements-only-requires c κs = search needs
-
 returns : tie.Need-returns
 returns c =
     let a = c .before .before .before .before .args in
     value-misfit (a .table) (a .rows .now) (a .work .now) (a .at) (a .terms) (sym (c .before .elements-only .ensures) ∙ not-true _ (c .if1 .taken))
-
-evaluate-requires : tie.Need-evaluate-requires
-evaluate-requires c κs = search needs
 
 returns-2 : tie.Need-returns-2
 returns-2 c =
@@ -29,4 +20,4 @@ returns-2 c =
 pub value-fit-spec : {M : Type 1} → statement M
 value-fit-spec =
     tie.close
-    (tie.spec add-elements-only elements-only-requires returns evaluate-requires returns-2)
+    (tie.spec (λ c. search needs) (λ c κs. search needs) returns (λ c κs. search needs) returns-2)

@@ -3,7 +3,7 @@
 -- Assumes nothing.
 use borrow.Author.Needs.{needs}
 use native.Mathlib.Omega.{arith}
-use Prim.Native.Nat.{ℕ, _+_, _-_, _*_, _≤_}
+use Prim.Native.Nat.{ℕ, _+_, _*_, _≤_}
 use mathlib.Core.Path.{_≡_, refl, sym, ap, ap₂, _∙_}
 use mathlib.Core.List.{List, [], _∷_}
 use mathlib.Core.Bool.{Bool, false}
@@ -167,36 +167,6 @@ part-holds-calls t = (past-reads.Asked, past-reads.Learnt, evaluate-below t, eva
 abbrev parts-hold-calls : ℕ → parts-hold-lts.Claims
 parts-hold-calls t = (evaluate-below t, evaluate.Post, settles-reads.Asked, settles-reads.Learnt, past-reads.Asked, past-reads.Learnt)
 
-connective-holds-enum-told : (t : ℕ) → connective-holds-lts.Need-enum-told (connective-holds-calls t) (connective-holds-at t) connective-holds.Post
-connective-holds-enum-told t c = search needs
-
-connective-holds-pair-holds-requires : (t : ℕ) → connective-holds-lts.Need-pair-holds-requires (connective-holds-calls t) (connective-holds-at t) connective-holds.Post
-connective-holds-pair-holds-requires t c κs = search needs
-
-connective-holds-enum-told-2 : (t : ℕ) → connective-holds-lts.Need-enum-told-2 (connective-holds-calls t) (connective-holds-at t) connective-holds.Post
-connective-holds-enum-told-2 t c = search needs
-
-connective-holds-pair-holds-requires-2 : (t : ℕ) → connective-holds-lts.Need-pair-holds-requires-2 (connective-holds-calls t) (connective-holds-at t) connective-holds.Post
-connective-holds-pair-holds-requires-2 t c κs = search needs
-
-connective-holds-enum-told-3 : (t : ℕ) → connective-holds-lts.Need-enum-told-3 (connective-holds-calls t) (connective-holds-at t) connective-holds.Post
-connective-holds-enum-told-3 t c = search needs
-
-connective-holds-pair-holds-requires-3 : (t : ℕ) → connective-holds-lts.Need-pair-holds-requires-3 (connective-holds-calls t) (connective-holds-at t) connective-holds.Post
-connective-holds-pair-holds-requires-3 t c κs = search needs
-
-connective-holds-enum-told-4 : (t : ℕ) → connective-holds-lts.Need-enum-told-4 (connective-holds-calls t) (connective-holds-at t) connective-holds.Post
-connective-holds-enum-told-4 t c = search needs
-
-connective-holds-pair-holds-requires-4 : (t : ℕ) → connective-holds-lts.Need-pair-holds-requires-4 (connective-holds-calls t) (connective-holds-at t) connective-holds.Post
-connective-holds-pair-holds-requires-4 t c κs = search needs
-
-connective-holds-enum-known-sign : (t : ℕ) → connective-holds-lts.Need-enum-known-sign (connective-holds-calls t) (connective-holds-at t) connective-holds.Post
-connective-holds-enum-known-sign t c = search needs
-
-connective-holds-parts-hold-requires : (t : ℕ) → connective-holds-lts.Need-parts-hold-requires (connective-holds-calls t) (connective-holds-at t) connective-holds.Post
-connective-holds-parts-hold-requires t c κs = search needs
-
 connective-holds-returns : (t : ℕ) → connective-holds-lts.Need-returns (connective-holds-calls t) (connective-holds-at t) connective-holds.Post
 connective-holds-returns t c =
     c .pair-holds .ensures ∙ connect-pair (c .before .before .before .before .before .args .sign) _ (ap isPair (c .before .enum-told .given .1))
@@ -231,15 +201,6 @@ each-holds-μ-loop work at levels every variable values table rows v₀ pending�
 each-holds-loop-holds : (t : ℕ) → each-holds-lts.Need-loop-holds (each-holds-calls t) (each-holds-at t) each-holds.Post each-holds-Inv-loop each-holds-μ-loop
 each-holds-loop-holds t c = (omega arith, omega arith, refl)
 
-each-holds-with-value-requires : (t : ℕ) → each-holds-lts.Need-with-value-requires (each-holds-calls t) (each-holds-at t) each-holds.Post each-holds-Inv-loop each-holds-μ-loop
-each-holds-with-value-requires t c κs = search needs
-
-each-holds-element-holds-requires : (t : ℕ) → each-holds-lts.Need-element-holds-requires (each-holds-calls t) (each-holds-at t) each-holds.Post each-holds-Inv-loop each-holds-μ-loop
-each-holds-element-holds-requires t c κs = search needs
-
-each-holds-settles-requires : (t : ℕ) → each-holds-lts.Need-settles-requires (each-holds-calls t) (each-holds-at t) each-holds.Post each-holds-Inv-loop each-holds-μ-loop
-each-holds-settles-requires t c κs = search needs
-
 each-holds-returns : (t : ℕ) → each-holds-lts.Need-returns (each-holds-calls t) (each-holds-at t) each-holds.Post each-holds-Inv-loop each-holds-μ-loop
 each-holds-returns t c =
     let a = c .before .before .before .before .before .before .before .before .args in
@@ -248,15 +209,6 @@ each-holds-returns t c =
     let is = c .before .before .element-holds .ensures ∙ ap (λ (e : List ℕ). elementAt (a .table) (a .rows .now) (a .levels) e (a .every) s) (c .before .before .before .with-value .ensures) in
     let settled = sym (c .before .settles .ensures) ∙ c .if1 .taken in
     sym (l .inv .2 ∙ each-settled (a .table) (a .rows .now) (a .levels) (a .values) (a .every) (a .variable) s (l .v) (l .pending) _ (omega arith) is settled)
-
-each-holds-add-v : (t : ℕ) → each-holds-lts.Need-add-v (each-holds-calls t) (each-holds-at t) each-holds.Post each-holds-Inv-loop each-holds-μ-loop
-each-holds-add-v t c = search needs
-
-each-holds-sub-pending : (t : ℕ) → each-holds-lts.Need-sub-pending (each-holds-calls t) (each-holds-at t) each-holds.Post each-holds-Inv-loop each-holds-μ-loop
-each-holds-sub-pending t c = search needs
-
-each-holds-loop-less : (t : ℕ) → each-holds-lts.Need-loop-less (each-holds-calls t) (each-holds-at t) each-holds.Post each-holds-Inv-loop each-holds-μ-loop
-each-holds-loop-less t c = search needs
 
 each-holds-loop-again : (t : ℕ) → each-holds-lts.Need-loop-again (each-holds-calls t) (each-holds-at t) each-holds.Post each-holds-Inv-loop each-holds-μ-loop
 each-holds-loop-again t c =
@@ -276,17 +228,11 @@ each-holds-returns-2 t c =
     let l = c .before .loop in
     sym (l .inv .2 ∙ each-end (a .table) (a .rows .now) (a .levels) (a .values) (a .every) (a .variable) (drop (a .at) (a .work .now)) (l .v) (l .pending) (omega arith))
 
-element-holds-evaluate-requires : (t : ℕ) → element-holds-lts.Need-evaluate-requires (element-holds-calls t) (element-holds-at t) element-holds.Post
-element-holds-evaluate-requires t c κs = search needs
-
 element-holds-returns : (t : ℕ) → element-holds-lts.Need-returns (element-holds-calls t) (element-holds-at t) element-holds.Post
 element-holds-returns t c =
     let a = c .before .before .before .before .args in
     let guard = sym (c .before .evaluate .ensures) ∙ not-true _ (c .if1 .taken) in
     element-outside (a .table) (a .rows .now) (a .work .now) (a .at) (a .levels) (a .values) (a .every) guard
-
-element-holds-past-requires : (t : ℕ) → element-holds-lts.Need-past-requires (element-holds-calls t) (element-holds-at t) element-holds.Post
-element-holds-past-requires t c κs = search needs
 
 element-holds-evaluate-requires-2 : (t : ℕ) → element-holds-lts.Need-evaluate-requires-2 (element-holds-calls t) (element-holds-at t) element-holds.Post
 element-holds-evaluate-requires-2 t c κs = (omega arith, (c .past .ensures .1, omega arith, omega arith))
@@ -307,60 +253,6 @@ evaluate-returns-2 : (t : ℕ) → evaluate-lts.Need-returns-2 (evaluate-calls t
 evaluate-returns-2 t c =
     let a = c .before .before .before .before .args in
     value-beyond (a .table) (a .rows .now) (a .work .now) (a .at) (a .levels) (a .values) (c .before .if1 .left) (c .if2 .taken)
-
-evaluate-sub-fewer : (t : ℕ) → evaluate-lts.Need-sub-fewer (evaluate-calls t) (evaluate-at t) evaluate.Post
-evaluate-sub-fewer t c = search needs
-
-evaluate-mul-kind-of : (t : ℕ) → evaluate-lts.Need-mul-kind-of (evaluate-calls t) (evaluate-at t) evaluate.Post
-evaluate-mul-kind-of t c = search needs
-
-evaluate-shared-slice-read-kind-of : (t : ℕ) → evaluate-lts.Need-shared-slice-read-kind-of (evaluate-calls t) (evaluate-at t) evaluate.Post
-evaluate-shared-slice-read-kind-of t c = search needs
-
-evaluate-kind-of-requires : (t : ℕ) → evaluate-lts.Need-kind-of-requires (evaluate-calls t) (evaluate-at t) evaluate.Post
-evaluate-kind-of-requires t c κs = search needs
-
-evaluate-enum-known-b : (t : ℕ) → evaluate-lts.Need-enum-known-b (evaluate-calls t) (evaluate-at t) evaluate.Post
-evaluate-enum-known-b t c = search needs
-
-evaluate-enum-known-predicate : (t : ℕ) → evaluate-lts.Need-enum-known-predicate (evaluate-calls t) (evaluate-at t) evaluate.Post
-evaluate-enum-known-predicate t c = search needs
-
-evaluate-add-atom-holds : (t : ℕ) → evaluate-lts.Need-add-atom-holds (evaluate-calls t) (evaluate-at t) evaluate.Post
-evaluate-add-atom-holds t c = search needs
-
-evaluate-atom-holds-requires : (t : ℕ) → evaluate-lts.Need-atom-holds-requires (evaluate-calls t) (evaluate-at t) evaluate.Post
-evaluate-atom-holds-requires t c κs = search needs
-
-evaluate-enum-told : (t : ℕ) → evaluate-lts.Need-enum-told (evaluate-calls t) (evaluate-at t) evaluate.Post
-evaluate-enum-told t c = search needs
-
-evaluate-add-equal-holds : (t : ℕ) → evaluate-lts.Need-add-equal-holds (evaluate-calls t) (evaluate-at t) evaluate.Post
-evaluate-add-equal-holds t c = search needs
-
-evaluate-equal-holds-requires : (t : ℕ) → evaluate-lts.Need-equal-holds-requires (evaluate-calls t) (evaluate-at t) evaluate.Post
-evaluate-equal-holds-requires t c κs = search needs
-
-evaluate-enum-known-sign : (t : ℕ) → evaluate-lts.Need-enum-known-sign (evaluate-calls t) (evaluate-at t) evaluate.Post
-evaluate-enum-known-sign t c = search needs
-
-evaluate-add-connective-holds : (t : ℕ) → evaluate-lts.Need-add-connective-holds (evaluate-calls t) (evaluate-at t) evaluate.Post
-evaluate-add-connective-holds t c = search needs
-
-evaluate-connective-holds-requires : (t : ℕ) → evaluate-lts.Need-connective-holds-requires (evaluate-calls t) (evaluate-at t) evaluate.Post
-evaluate-connective-holds-requires t c κs = search needs
-
-evaluate-enum-known-every : (t : ℕ) → evaluate-lts.Need-enum-known-every (evaluate-calls t) (evaluate-at t) evaluate.Post
-evaluate-enum-known-every t c = search needs
-
-evaluate-add-each-holds : (t : ℕ) → evaluate-lts.Need-add-each-holds (evaluate-calls t) (evaluate-at t) evaluate.Post
-evaluate-add-each-holds t c = search needs
-
-evaluate-each-holds-requires : (t : ℕ) → evaluate-lts.Need-each-holds-requires (evaluate-calls t) (evaluate-at t) evaluate.Post
-evaluate-each-holds-requires t c κs = search needs
-
-evaluate-enum-told-2 : (t : ℕ) → evaluate-lts.Need-enum-told-2 (evaluate-calls t) (evaluate-at t) evaluate.Post
-evaluate-enum-told-2 t c = search needs
 
 evaluate-returns-3 : (t : ℕ) → evaluate-lts.Need-returns-3 (evaluate-calls t) (evaluate-at t) evaluate.Post
 evaluate-returns-3 t c =
@@ -408,27 +300,12 @@ evaluate-returns-8 t c =
     let told = sym (c .before .before .kind-of .ensures) ∙ c .enum-told2 .given .1 in
     value-term (a .table) (a .rows .now) (a .work .now) (a .at) (a .levels) (a .values) some told
 
-pair-holds-part-holds-requires : (t : ℕ) → pair-holds-lts.Need-part-holds-requires (pair-holds-calls t) (pair-holds-at t) pair-holds.Post
-pair-holds-part-holds-requires t c κs = search needs
-
-pair-holds-first-settles-requires : (t : ℕ) → pair-holds-lts.Need-first-settles-requires (pair-holds-calls t) (pair-holds-at t) pair-holds.Post
-pair-holds-first-settles-requires t c κs = search needs
-
-pair-holds-connected-requires : (t : ℕ) → pair-holds-lts.Need-connected-requires (pair-holds-calls t) (pair-holds-at t) pair-holds.Post
-pair-holds-connected-requires t c κs = search needs
-
 pair-holds-returns : (t : ℕ) → pair-holds-lts.Need-returns (pair-holds-calls t) (pair-holds-at t) pair-holds.Post
 pair-holds-returns t c =
     let a = c .before .before .before .before .before .before .args in
     let truths = truthsAt (a .table) (a .rows .now) (a .levels) (a .values) (a .parts) (drop (a .at) (a .work .now)) in
     c .connected .ensures ∙ connect-settled (a .sign) _ _ _ (sym (c .before .before .first-settles .ensures) ∙ c .before .if1 .taken)
     ∙ ap (λ (b : Bool). connect (connectiveOf (a .sign)) (b ∷ getD truths 1 false ∷ [])) (c .before .before .before .part-holds .ensures)
-
-pair-holds-part-holds-requires-2 : (t : ℕ) → pair-holds-lts.Need-part-holds-requires-2 (pair-holds-calls t) (pair-holds-at t) pair-holds.Post
-pair-holds-part-holds-requires-2 t c κs = search needs
-
-pair-holds-connected-requires-2 : (t : ℕ) → pair-holds-lts.Need-connected-requires-2 (pair-holds-calls t) (pair-holds-at t) pair-holds.Post
-pair-holds-connected-requires-2 t c κs = search needs
 
 pair-holds-returns-2 : (t : ℕ) → pair-holds-lts.Need-returns-2 (pair-holds-calls t) (pair-holds-at t) pair-holds.Post
 pair-holds-returns-2 t c =
@@ -439,9 +316,6 @@ part-holds-returns : (t : ℕ) → part-holds-lts.Need-returns (part-holds-calls
 part-holds-returns t c =
     let a = c .before .before .before .args in
     part-none (a .table) (a .rows .now) (a .levels) (a .values) (a .work .now) (a .at) (a .i) (a .parts) (c .if1 .taken)
-
-part-holds-past-requires : (t : ℕ) → part-holds-lts.Need-past-requires (part-holds-calls t) (part-holds-at t) part-holds.Post
-part-holds-past-requires t c κs = search needs
 
 part-holds-evaluate-requires : (t : ℕ) → part-holds-lts.Need-evaluate-requires (part-holds-calls t) (part-holds-at t) part-holds.Post
 part-holds-evaluate-requires t c κs = (omega arith, (c .past .ensures .1, omega arith, omega arith))
@@ -462,12 +336,6 @@ parts-hold-μ-loop work at levels every parts values table rows i₀ pending₀ 
 parts-hold-loop-holds : (t : ℕ) → parts-hold-lts.Need-loop-holds (parts-hold-calls t) (parts-hold-at t) parts-hold.Post parts-hold-Inv-loop parts-hold-μ-loop
 parts-hold-loop-holds t c = (omega arith, refl)
 
-parts-hold-evaluate-requires : (t : ℕ) → parts-hold-lts.Need-evaluate-requires (parts-hold-calls t) (parts-hold-at t) parts-hold.Post parts-hold-Inv-loop parts-hold-μ-loop
-parts-hold-evaluate-requires t c κs = search needs
-
-parts-hold-settles-requires : (t : ℕ) → parts-hold-lts.Need-settles-requires (parts-hold-calls t) (parts-hold-at t) parts-hold.Post parts-hold-Inv-loop parts-hold-μ-loop
-parts-hold-settles-requires t c κs = search needs
-
 parts-hold-returns : (t : ℕ) → parts-hold-lts.Need-returns (parts-hold-calls t) (parts-hold-at t) parts-hold.Post parts-hold-Inv-loop parts-hold-μ-loop
 parts-hold-returns t c =
     let a = c .before .before .before .before .before .before .before .args in
@@ -475,15 +343,6 @@ parts-hold-returns t c =
     let is = c .before .before .evaluate .ensures in
     let settled = sym (c .before .settles .ensures) ∙ c .if1 .taken in
     sym (l .inv .1 ∙ parts-settled (a .table) (a .rows .now) (a .levels) (a .values) (a .work .now) (l .i) (l .pending) (a .every) _ (omega arith) is settled)
-
-parts-hold-past-requires : (t : ℕ) → parts-hold-lts.Need-past-requires (parts-hold-calls t) (parts-hold-at t) parts-hold.Post parts-hold-Inv-loop parts-hold-μ-loop
-parts-hold-past-requires t c κs = search needs
-
-parts-hold-sub-pending : (t : ℕ) → parts-hold-lts.Need-sub-pending (parts-hold-calls t) (parts-hold-at t) parts-hold.Post parts-hold-Inv-loop parts-hold-μ-loop
-parts-hold-sub-pending t c = search needs
-
-parts-hold-loop-less : (t : ℕ) → parts-hold-lts.Need-loop-less (parts-hold-calls t) (parts-hold-at t) parts-hold.Post parts-hold-Inv-loop parts-hold-μ-loop
-parts-hold-loop-less t c = search needs
 
 parts-hold-loop-again : (t : ℕ) → parts-hold-lts.Need-loop-again (parts-hold-calls t) (parts-hold-at t) parts-hold.Post parts-hold-Inv-loop parts-hold-μ-loop
 parts-hold-loop-again t c =
@@ -516,16 +375,16 @@ pub +connective-holds+each-holds+element-holds+evaluate+pair-holds+part-holds+pa
     (λ t. connective-holds-lts.spec (connective-holds-calls t)
     (connective-holds-at t)
     connective-holds.Post
-    (connective-holds-enum-told t)
-    (connective-holds-pair-holds-requires t)
-    (connective-holds-enum-told-2 t)
-    (connective-holds-pair-holds-requires-2 t)
-    (connective-holds-enum-told-3 t)
-    (connective-holds-pair-holds-requires-3 t)
-    (connective-holds-enum-told-4 t)
-    (connective-holds-pair-holds-requires-4 t)
-    (connective-holds-enum-known-sign t)
-    (connective-holds-parts-hold-requires t)
+    (λ c. search needs)
+    (λ c κs. search needs)
+    (λ c. search needs)
+    (λ c κs. search needs)
+    (λ c. search needs)
+    (λ c κs. search needs)
+    (λ c. search needs)
+    (λ c κs. search needs)
+    (λ c. search needs)
+    (λ c κs. search needs)
     (connective-holds-returns t)
     (connective-holds-returns-2 t)
     (connective-holds-returns-3 t)
@@ -537,21 +396,21 @@ pub +connective-holds+each-holds+element-holds+evaluate+pair-holds+part-holds+pa
     each-holds-Inv-loop
     each-holds-μ-loop
     (each-holds-loop-holds t)
-    (each-holds-with-value-requires t)
-    (each-holds-element-holds-requires t)
-    (each-holds-settles-requires t)
+    (λ c κs. search needs)
+    (λ c κs. search needs)
+    (λ c κs. search needs)
     (each-holds-returns t)
-    (each-holds-add-v t)
-    (each-holds-sub-pending t)
-    (each-holds-loop-less t)
+    (λ c. search needs)
+    (λ c. search needs)
+    (λ c. search needs)
     (each-holds-loop-again t)
     (each-holds-returns-2 t))
     (λ t. element-holds-lts.spec (element-holds-calls t)
     (element-holds-at t)
     element-holds.Post
-    (element-holds-evaluate-requires t)
+    (λ c κs. search needs)
     (element-holds-returns t)
-    (element-holds-past-requires t)
+    (λ c κs. search needs)
     (element-holds-evaluate-requires-2 t)
     (element-holds-returns-2 t))
     (λ t. evaluate-lts.spec (evaluate-calls t)
@@ -559,24 +418,24 @@ pub +connective-holds+each-holds+element-holds+evaluate+pair-holds+part-holds+pa
     evaluate.Post
     (evaluate-returns t)
     (evaluate-returns-2 t)
-    (evaluate-sub-fewer t)
-    (evaluate-mul-kind-of t)
-    (evaluate-shared-slice-read-kind-of t)
-    (evaluate-kind-of-requires t)
-    (evaluate-enum-known-b t)
-    (evaluate-enum-known-predicate t)
-    (evaluate-add-atom-holds t)
-    (evaluate-atom-holds-requires t)
-    (evaluate-enum-told t)
-    (evaluate-add-equal-holds t)
-    (evaluate-equal-holds-requires t)
-    (evaluate-enum-known-sign t)
-    (evaluate-add-connective-holds t)
-    (evaluate-connective-holds-requires t)
-    (evaluate-enum-known-every t)
-    (evaluate-add-each-holds t)
-    (evaluate-each-holds-requires t)
-    (evaluate-enum-told-2 t)
+    (λ c. search needs)
+    (λ c. search needs)
+    (λ c. search needs)
+    (λ c κs. search needs)
+    (λ c. search needs)
+    (λ c. search needs)
+    (λ c. search needs)
+    (λ c κs. search needs)
+    (λ c. search needs)
+    (λ c. search needs)
+    (λ c κs. search needs)
+    (λ c. search needs)
+    (λ c. search needs)
+    (λ c κs. search needs)
+    (λ c. search needs)
+    (λ c. search needs)
+    (λ c κs. search needs)
+    (λ c. search needs)
     (evaluate-returns-3 t)
     (evaluate-returns-4 t)
     (evaluate-returns-5 t)
@@ -586,18 +445,18 @@ pub +connective-holds+each-holds+element-holds+evaluate+pair-holds+part-holds+pa
     (λ t. pair-holds-lts.spec (pair-holds-calls t)
     (pair-holds-at t)
     pair-holds.Post
-    (pair-holds-part-holds-requires t)
-    (pair-holds-first-settles-requires t)
-    (pair-holds-connected-requires t)
+    (λ c κs. search needs)
+    (λ c κs. search needs)
+    (λ c κs. search needs)
     (pair-holds-returns t)
-    (pair-holds-part-holds-requires-2 t)
-    (pair-holds-connected-requires-2 t)
+    (λ c κs. search needs)
+    (λ c κs. search needs)
     (pair-holds-returns-2 t))
     (λ t. part-holds-lts.spec (part-holds-calls t)
     (part-holds-at t)
     part-holds.Post
     (part-holds-returns t)
-    (part-holds-past-requires t)
+    (λ c κs. search needs)
     (part-holds-evaluate-requires t)
     (part-holds-returns-2 t))
     λ t. parts-hold-lts.spec (parts-hold-calls t)
@@ -606,11 +465,11 @@ pub +connective-holds+each-holds+element-holds+evaluate+pair-holds+part-holds+pa
     parts-hold-Inv-loop
     parts-hold-μ-loop
     (parts-hold-loop-holds t)
-    (parts-hold-evaluate-requires t)
-    (parts-hold-settles-requires t)
+    (λ c κs. search needs)
+    (λ c κs. search needs)
     (parts-hold-returns t)
-    (parts-hold-past-requires t)
-    (parts-hold-sub-pending t)
-    (parts-hold-loop-less t)
+    (λ c κs. search needs)
+    (λ c. search needs)
+    (λ c. search needs)
     (parts-hold-loop-again t)
     (parts-hold-returns-2 t)

@@ -6,41 +6,14 @@ use Rattle.formula.proofs.memory.Values.{impliedBy-true, impliedBy-fals
 use Rattle.formula.proofs.guard.connected.Statement.{statement}
 use Rattle.formula.proofs.guard.connected.Tie as tie
 
-enum-told : tie.Need-enum-told
-enum-told c = search needs
-
-enum-told-2 : tie.Need-enum-told-2
-enum-told-2 c = search needs
-
-returns : tie.Need-returns
-returns c = search needs
-
-enum-told-3 : tie.Need-enum-told-3
-enum-told-3 c = search needs
-
 returns-2 : tie.Need-returns-2
 returns-2 c = impliedBy-true _ _ _ (c .before .enum-told3 .given .1) (c .if2 .taken)
-
-enum-told-4 : tie.Need-enum-told-4
-enum-told-4 c = search needs
 
 returns-3 : tie.Need-returns-3
 returns-3 c = equivalent-true _ _ _ (c .before .enum-told4 .given .1) (c .if3 .taken)
 
-enum-known-sign : tie.Need-enum-known-sign
-enum-known-sign c = search needs
-
-settles-requires : tie.Need-settles-requires
-settles-requires c κs = search needs
-
 returns-4 : tie.Need-returns-4
 returns-4 c = junction-settled _ _ _ _ (c .before .before .before .sign .given .1) (sym (c .before .settles .ensures) ∙ c .if4 .taken)
-
-returns-5 : tie.Need-returns-5
-returns-5 c = search needs
-
-returns-6 : tie.Need-returns-6
-returns-6 c = search needs
 
 returns-7 : tie.Need-returns-7
 returns-7 c = impliedBy-false _ _ _ (c .before .enum-told3 .given .1) (c .if2 .left)
@@ -55,18 +28,18 @@ pub connected-spec : {M : Type 1} → statement M
 connected-spec =
     tie.close
     (tie.spec
-    enum-told
-    enum-told-2
-    returns
-    enum-told-3
+    (λ c. search needs)
+    (λ c. search needs)
+    (λ c. search needs)
+    (λ c. search needs)
     returns-2
-    enum-told-4
+    (λ c. search needs)
     returns-3
-    enum-known-sign
-    settles-requires
+    (λ c. search needs)
+    (λ c κs. search needs)
     returns-4
-    returns-5
-    returns-6
+    (λ c. search needs)
+    (λ c. search needs)
     returns-7
     returns-8
     returns-9)

@@ -10,21 +10,6 @@ use Rattle.formula.specs.memory.Values.{valued}
 use Rattle.formula.proofs.guard.equal_holds.Statement.{statement}
 use Rattle.formula.proofs.guard.equal_holds.Tie as tie
 
-peek-requires : tie.Need-peek-requires
-peek-requires c κs = search needs
-
-value-of-requires : tie.Need-value-of-requires
-value-of-requires c κs = search needs
-
-add-peek : tie.Need-add-peek
-add-peek c = search needs
-
-peek-requires-2 : tie.Need-peek-requires-2
-peek-requires-2 c κs = search needs
-
-value-of-requires-2 : tie.Need-value-of-requires-2
-value-of-requires-2 c κs = search needs
-
 returns : tie.Need-returns
 returns c =
     let a = c .before .before .before .before .before .args in
@@ -34,4 +19,4 @@ returns c =
 pub equal-holds-spec : {M : Type 1} → statement M
 equal-holds-spec =
     tie.close
-    (tie.spec peek-requires value-of-requires add-peek peek-requires-2 value-of-requires-2 returns)
+    (tie.spec (λ c κs. search needs) (λ c κs. search needs) (λ c. search needs) (λ c κs. search needs) (λ c κs. search needs) returns)

@@ -16,33 +16,12 @@ returns c =
     let a = c .before .before .args in
     row-none (a .work .now) (a .at) (a .values) ∙ ap (rowNumber (a .work .now) (a .at) (a .values)) (sym (c .if1 .taken))
 
-peek-requires : tie.Need-peek-requires
-peek-requires c κs = search needs
-
-value-of-requires : tie.Need-value-of-requires
-value-of-requires c κs = search needs
-
 returns-2 : tie.Need-returns-2
 returns-2 c =
     let a = c .before .before .before .before .before .args in
     let value : ℕ → ℕ = λ w. valueOf (valued (a .values)) (termOf indexName w) in
     let first = c .before .value-of .ensures .0 ∙ ap value (c .before .before .peek .ensures) in
     first ∙ row-one (a .work .now) (a .at) (a .values) ∙ ap (rowNumber (a .work .now) (a .at) (a .values)) (sym (c .if2 .taken))
-
-add-peek : tie.Need-add-peek
-add-peek c = search needs
-
-peek-requires-2 : tie.Need-peek-requires-2
-peek-requires-2 c κs = search needs
-
-value-of-requires-2 : tie.Need-value-of-requires-2
-value-of-requires-2 c κs = search needs
-
-mul-result : tie.Need-mul-result
-mul-result c = search needs
-
-add-result : tie.Need-add-result
-add-result c = search needs
 
 returns-3 : tie.Need-returns-3
 returns-3 c =
@@ -51,27 +30,6 @@ returns-3 c =
     let first = c .before .before .before .before .value-of .ensures .0 ∙ ap value (c .before .before .before .before .before .peek .ensures) in
     let second = c .before .value-of2 .ensures .0 ∙ ap value (c .before .before .peek2 .ensures) in
     rw (first, second) (row-two (a .work .now) (a .at) (a .values) ∙ ap (rowNumber (a .work .now) (a .at) (a .values)) (sym (c .if3 .taken)))
-
-add-peek-2 : tie.Need-add-peek-2
-add-peek-2 c = search needs
-
-peek-requires-3 : tie.Need-peek-requires-3
-peek-requires-3 c κs = search needs
-
-value-of-requires-3 : tie.Need-value-of-requires-3
-value-of-requires-3 c κs = search needs
-
-mul-result-2 : tie.Need-mul-result-2
-mul-result-2 c = search needs
-
-add-result-2 : tie.Need-add-result-2
-add-result-2 c = search needs
-
-mul-result-3 : tie.Need-mul-result-3
-mul-result-3 c = search needs
-
-add-result-3 : tie.Need-add-result-3
-add-result-3 c = search needs
 
 returns-4 : tie.Need-returns-4
 returns-4 c =
@@ -88,20 +46,20 @@ row-of-spec =
     tie.close
     (tie.spec
     returns
-    peek-requires
-    value-of-requires
+    (λ c κs. search needs)
+    (λ c κs. search needs)
     returns-2
-    add-peek
-    peek-requires-2
-    value-of-requires-2
-    mul-result
-    add-result
+    (λ c. search needs)
+    (λ c κs. search needs)
+    (λ c κs. search needs)
+    (λ c. search needs)
+    (λ c. search needs)
     returns-3
-    add-peek-2
-    peek-requires-3
-    value-of-requires-3
-    mul-result-2
-    add-result-2
-    mul-result-3
-    add-result-3
+    (λ c. search needs)
+    (λ c κs. search needs)
+    (λ c κs. search needs)
+    (λ c. search needs)
+    (λ c. search needs)
+    (λ c. search needs)
+    (λ c. search needs)
     returns-4)

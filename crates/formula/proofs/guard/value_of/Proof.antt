@@ -10,17 +10,8 @@ use Rattle.formula.proofs.guard.value_of.Tie as tie
 returns : tie.Need-returns
 returns c = (element-value (c .before .args .word) _ (c .if1 .taken), omega arith)
 
-cast-x : tie.Need-cast-x
-cast-x c = search needs
-
-array-read-small : tie.Need-array-read-small
-array-read-small c = search needs
-
-small-requires : tie.Need-small-requires
-small-requires c κs = search needs
-
 returns-2 : tie.Need-returns-2
 returns-2 c = (c .small .ensures .0 ∙ variable-value (c .before .before .args .word) (c .before .before .args .t2) (c .before .if1 .left), c .small .ensures .1)
 
 pub value-of-spec : {M : Type 1} → statement M
-value-of-spec = tie.close (tie.spec returns cast-x array-read-small small-requires returns-2)
+value-of-spec = tie.close (tie.spec returns (λ c. search needs) (λ c. search needs) (λ c κs. search needs) returns-2)

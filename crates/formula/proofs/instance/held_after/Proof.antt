@@ -6,32 +6,11 @@ use Rattle.formula.proofs.memory.Instances.{after-held, after-all, afte
 use Rattle.formula.proofs.instance.held_after.Statement.{statement}
 use Rattle.formula.proofs.instance.held_after.Tie as tie
 
-sub-result : tie.Need-sub-result
-sub-result c = search needs
-
-parts-of-requires : tie.Need-parts-of-requires
-parts-of-requires c κs = search needs
-
-add-result : tie.Need-add-result
-add-result c = search needs
-
 returns : tie.Need-returns
 returns c = let a = c .before .before .args in (rw (c .parts-of .ensures .0) (after-held (a .x) (a .held) (a .word) (c .before .if1 .taken)), omega (arith, c .parts-of .ensures .1))
 
-mul-if2 : tie.Need-mul-if2
-mul-if2 c = search needs
-
-add-if2 : tie.Need-add-if2
-add-if2 c = search needs
-
 returns-2 : tie.Need-returns-2
 returns-2 c = let a = c .before .before .args in (after-all (a .x) (a .held) (a .word) (omega arith) (c .if2 .taken), omega arith)
-
-mul-if3 : tie.Need-mul-if3
-mul-if3 c = search needs
-
-add-if3 : tie.Need-add-if3
-add-if3 c = search needs
 
 returns-3 : tie.Need-returns-3
 returns-3 c = let a = c .before .before .before .args in (after-any (a .x) (a .held) (a .word) (omega arith) (c .before .if2 .left) (c .if3 .taken), omega arith)
@@ -43,14 +22,14 @@ pub held-after-spec : {M : Type 1} → statement M
 held-after-spec =
     tie.close
     (tie.spec
-    sub-result
-    parts-of-requires
-    add-result
+    (λ c. search needs)
+    (λ c κs. search needs)
+    (λ c. search needs)
     returns
-    mul-if2
-    add-if2
+    (λ c. search needs)
+    (λ c. search needs)
     returns-2
-    mul-if3
-    add-if3
+    (λ c. search needs)
+    (λ c. search needs)
     returns-3
     returns-4)

@@ -26,23 +26,11 @@ mul-word c = omega (arith, ahead-length (c .before .loop .inv .3))
 slice-read-word : tie.Need-slice-read-word Inv-loop μ-loop
 slice-read-word c = omega (arith, ahead-length (c .before .before .loop .inv .3))
 
-word-with-requires : tie.Need-word-with-requires Inv-loop μ-loop
-word-with-requires c κs = search needs
-
 put-requires : tie.Need-put-requires Inv-loop μ-loop
 put-requires c κs =
     let a = c .before .before .before .before .before .before .args in
     let s = slice (a .at) (a .end) (a .work .now) in
     omega (arith, c .before .before .before .before .loop .inv .3 .ends, length-wordsWith (a .x) (a .v) s 0, length-slice (a .at) (a .end) (a .work .now) (omega arith))
-
-held-after-requires : tie.Need-held-after-requires Inv-loop μ-loop
-held-after-requires c κs = search needs
-
-add-i : tie.Need-add-i Inv-loop μ-loop
-add-i c = search needs
-
-loop-less : tie.Need-loop-less Inv-loop μ-loop
-loop-less c = search needs
 
 loop-again : tie.Need-loop-again Inv-loop μ-loop
 loop-again c =
@@ -74,11 +62,11 @@ instance-spec =
     loop-holds
     mul-word
     slice-read-word
-    word-with-requires
+    (λ c κs. search needs)
     put-requires
-    held-after-requires
-    add-i
-    loop-less
+    (λ c κs. search needs)
+    (λ c. search needs)
+    (λ c. search needs)
     loop-again
     same-length
     returns)

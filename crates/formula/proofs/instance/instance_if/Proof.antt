@@ -6,12 +6,6 @@ use mathlib.Core.Path.{refl}
 use Rattle.formula.proofs.instance.instance_if.Statement.{statement}
 use Rattle.formula.proofs.instance.instance_if.Tie as tie
 
-instance-requires : tie.Need-instance-requires
-instance-requires c κs = search needs
-
-same-length : tie.Need-same-length
-same-length c = search needs
-
 returns : tie.Need-returns
 returns c = rw (c .before .before .before .before .if1 .taken) (c .before .before .instance .ensures)
 
@@ -19,4 +13,4 @@ returns-2 : tie.Need-returns-2
 returns-2 c = rw (c .if1 .left) (record { holds = refl; ends = omega arith })
 
 pub instance-if-spec : {M : Type 1} → statement M
-instance-if-spec = tie.close (tie.spec instance-requires same-length returns returns-2)
+instance-if-spec = tie.close (tie.spec (λ c κs. search needs) (λ c. search needs) returns returns-2)

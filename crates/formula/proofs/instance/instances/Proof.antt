@@ -21,26 +21,11 @@ abbrev μ-loop : tie.MeasureT-loop
 loop-holds : tie.Need-loop-holds Inv-loop μ-loop
 loop-holds c = (omega arith, ahead-start _ _ _)
 
-cast-instance-if : tie.Need-cast-instance-if Inv-loop μ-loop
-cast-instance-if c = search needs
-
-array-read-instance-if : tie.Need-array-read-instance-if Inv-loop μ-loop
-array-read-instance-if c = search needs
-
-add-instance-if : tie.Need-add-instance-if Inv-loop μ-loop
-add-instance-if c = search needs
-
 instance-if-requires : tie.Need-instance-if-requires Inv-loop μ-loop
 instance-if-requires c κs =
     let a = c .before .before .before .before .args in
     let l = c .before .before .loop in
     omega (arith, l .inv .1 .after, l .inv .1 .ends, ahead-length (l .inv .1), copies-near (a .t5) (a .domain) (a .x) (a .work .now) (a .at) (a .end) 1 (omega arith), c .before .before .before .before .pre .0)
-
-add-i : tie.Need-add-i Inv-loop μ-loop
-add-i c = search needs
-
-loop-less : tie.Need-loop-less Inv-loop μ-loop
-loop-less c = search needs
 
 loop-again : tie.Need-loop-again Inv-loop μ-loop
 loop-again c =
@@ -67,12 +52,12 @@ instances-spec =
     Inv-loop
     μ-loop
     loop-holds
-    cast-instance-if
-    array-read-instance-if
-    add-instance-if
+    (λ c. search needs)
+    (λ c. search needs)
+    (λ c. search needs)
     instance-if-requires
-    add-i
-    loop-less
+    (λ c. search needs)
+    (λ c. search needs)
     loop-again
     same-length
     returns)

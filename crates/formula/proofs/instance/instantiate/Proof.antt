@@ -12,9 +12,6 @@ use Rattle.formula.proofs.memory.Instances.{instantiated-kept, instanti
 use Rattle.formula.proofs.instance.instantiate.Statement.{statement}
 use Rattle.formula.proofs.instance.instantiate.Tie as tie
 
-copy-requires : tie.Need-copy-requires
-copy-requires c κs = search needs
-
 store-instantiated-requires : tie.Need-store-instantiated-requires
 store-instantiated-requires c κs =
     omega (arith, place-near (c .before .before .before .before .before .before .pre .0) (c .before .before .before .copy .ensures), c .before .before .before .copy .kept .0, c .before .before .before .before .before .before .pre .0)
@@ -32,9 +29,6 @@ sub-result : tie.Need-sub-result
 sub-result c =
     omega (arith, c .before .before .copy2 .ensures .ends, place-near (c .before .before .before .before .before .before .before .before .before .before .before .before .before .pre .0) (c .before .before .before .before .before .before .before .before .before .before .copy .ensures), c .before .before .before .before .before .before .store-instantiated .ensures .ends)
 
-same-length : tie.Need-same-length
-same-length c = search needs
-
 returns : tie.Need-returns
 returns c =
     let a = c .before .before .before .before .before .before .before .before .before .before .before .before .before .args in
@@ -47,9 +41,9 @@ pub instantiate-spec : {M : Type 1} → statement M
 instantiate-spec =
     tie.close
     (tie.spec
-    copy-requires
+    (λ c κs. search needs)
     store-instantiated-requires
     copy-requires-2
     sub-result
-    same-length
+    (λ c. search needs)
     returns)

@@ -9,42 +9,18 @@ use Rattle.formula.proofs.memory.Instances.{instantiated-stores}
 use Rattle.formula.proofs.instance.store_instantiated.Statement.{statement}
 use Rattle.formula.proofs.instance.store_instantiated.Tie as tie
 
-mul-word : tie.Need-mul-word
-mul-word c = search needs
-
-slice-read-word : tie.Need-slice-read-word
-slice-read-word c = search needs
-
-slice-reshare-prefix-past : tie.Need-slice-reshare-prefix-past
-slice-reshare-prefix-past c = search needs
-
 slice-aggregate-past : tie.Need-slice-aggregate-past
 slice-aggregate-past c = sym (length-take-le (c .before .before .before .args .end) (c .before .before .before .args .work .now) (omega (arith, c .before .before .before .pre .0)))
-
-add-past : tie.Need-add-past
-add-past c = search needs
 
 past-requires : tie.Need-past-requires
 past-requires c κs =
     let l = length-take-le (c .before .before .before .args .end) (c .before .before .before .args .work .now) (omega (arith, c .before .before .before .pre .0)) in
     omega (arith, c .before .before .before .pre .0)
 
-set-count-requires : tie.Need-set-count-requires
-set-count-requires c κs = search needs
-
-junction-word-requires : tie.Need-junction-word-requires
-junction-word-requires c κs = search needs
-
-put-requires : tie.Need-put-requires
-put-requires c κs = search needs
-
 instances-requires : tie.Need-instances-requires
 instances-requires c κs =
     let l = length-take-le (c .before .before .before .before .before .before .before .before .before .before .before .args .end) (c .before .before .before .before .before .before .before .before .before .before .before .args .work .now) (omega (arith, c .before .before .before .before .before .before .before .before .before .before .before .pre .0)) in
     omega (arith, c .before .before .before .before .before .before .before .before .before .before .before .pre .0, c .before .before .before .before .before .before .before .past .ensures .1, c .before .before .before .put .ensures .ends, c .before .before .before .put .kept .0, c .before .before .before .before .before .before .before .before .before .slice-known2 .given (c .before .before .before .before .before .before .before .before .before .before .before .args .at))
-
-same-length : tie.Need-same-length
-same-length c = search needs
 
 returns : tie.Need-returns
 returns c =
@@ -56,15 +32,15 @@ pub store-instantiated-spec : {M : Type 1} → statement M
 store-instantiated-spec =
     tie.close
     (tie.spec
-    mul-word
-    slice-read-word
-    slice-reshare-prefix-past
+    (λ c. search needs)
+    (λ c. search needs)
+    (λ c. search needs)
     slice-aggregate-past
-    add-past
+    (λ c. search needs)
     past-requires
-    set-count-requires
-    junction-word-requires
-    put-requires
+    (λ c κs. search needs)
+    (λ c κs. search needs)
+    (λ c κs. search needs)
     instances-requires
-    same-length
+    (λ c. search needs)
     returns)

@@ -9,18 +9,6 @@ use Rattle.formula.proofs.instance.word_with.Tie as tie
 returns : tie.Need-returns
 returns c = let a = c .before .args in with-held (a .x) (a .v) (a .held) (a .word) (c .if1 .taken)
 
-mul-if2 : tie.Need-mul-if2
-mul-if2 c = search needs
-
-add-if2 : tie.Need-add-if2
-add-if2 c = search needs
-
-mul-result : tie.Need-mul-result
-mul-result c = search needs
-
-add-result : tie.Need-add-result
-add-result c = search needs
-
 returns-2 : tie.Need-returns-2
 returns-2 c = let a = c .before .before .args in with-element (a .x) (a .v) (a .held) (a .word) (omega arith) (c .if2 .taken)
 
@@ -29,4 +17,4 @@ returns-3 c = let a = c .before .before .args in with-other (a .x) (a .v) (a .he
 
 pub word-with-spec : {M : Type 1} → statement M
 word-with-spec =
-    tie.close (tie.spec returns mul-if2 add-if2 mul-result add-result returns-2 returns-3)
+    tie.close (tie.spec returns (λ c. search needs) (λ c. search needs) (λ c. search needs) (λ c. search needs) returns-2 returns-3)

@@ -2,8 +2,7 @@
 -- Assumes nothing.
 use borrow.Author.Needs.{needs}
 use native.Mathlib.Omega.{arith}
-use Prim.Native.Nat.{_+_, _-_, _≤_}
-use mathlib.Core.Path.{_≡_, sym, _∙_}
+use Prim.Native.Nat.{_+_, _-_}
 use lib.ListN.{take, drop}
 use Rattle.text.specs.Problem.{readName}
 use Rattle.formula.specs.memory.Bindings.{boundIn}
@@ -15,32 +14,17 @@ use Rattle.formula.proofs.memory.Leaves.{atom-nameless, atom-refused, a
 use Rattle.formula.proofs.leaf.read_atom.Statement.{statement}
 use Rattle.formula.proofs.leaf.read_atom.Tie as tie
 
-predicate-end-requires : tie.Need-predicate-end-requires
-predicate-end-requires c κs = search needs
-
-enum-known-end : tie.Need-enum-known-end
-enum-known-end c = search needs
-
-add-read-arguments : tie.Need-add-read-arguments
-add-read-arguments c = search needs
-
 read-arguments-requires : tie.Need-read-arguments-requires
 read-arguments-requires c κs =
     let a = c .before .before .before .before .before .before .before .before .before .args in
     let w = word-done (readName 5) (a .text .now) (a .at) (c .before .before .before .before .before .predicate-end .result) (c .before .before .before .before .before .predicate-end .ensures) (c .before .before .before .end .given .0 .0) (c .before .before .before .end .given .1) in
     (omega (arith, w .within), omega arith, omega arith, omega (arith, w .after))
 
-enum-known-next : tie.Need-enum-known-next
-enum-known-next c = search needs
-
 sub-size : tie.Need-sub-size
 sub-size c =
     let a = c .before .before .before .before .before .before .before .before .before .before .before .before .before .before .before .args in
     let w = word-done (readName 5) (a .text .now) (a .at) (c .before .before .before .before .before .before .before .before .before .before .before .predicate-end .result) (c .before .before .before .before .before .before .before .before .before .before .before .predicate-end .ensures) (c .before .before .before .before .before .before .before .before .before .end .given .0 .0) (c .before .before .before .before .before .before .before .before .before .end .given .1) in
     omega (arith, w .after)
-
-find-requires : tie.Need-find-requires
-find-requires c κs = search needs
 
 cast-put : tie.Need-cast-put
 cast-put c =
@@ -77,35 +61,17 @@ add-put-2 c =
     let p = position-table (a .problem .now) (a .table) (take (c .before .before .before .before .before .before .before .before .before .before .before .end .given .0 .0 - a .at) (drop (a .at) (a .text .now))) in
     omega (arith, f .after, f .within, c .before .find .ensures)
 
-put-requires : tie.Need-put-requires
-put-requires c κs = search needs
-
 add-t31 : tie.Need-add-t31
 add-t31 c =
     let a = c .before .before .before .before .before .before .before .before .before .before .before .before .before .before .before .before .before .before .before .before .args in
     let f = terms-done (a .text .now) (a .table .domain) (boundIn (a .text .now) (a .scope)) readTermList (c .before .before .before .before .before .before .before .before .before .before .before .before .before .before .end .given .0 .0) (memory (a .names .now) (a .work .now)) (a .to + 1) _ (c .before .before .before .before .before .before .before .before .before .before .read-arguments .result) (c .before .before .before .before .before .before .before .before .before .before .read-arguments .ensures) (c .before .before .before .before .before .before .next .given .0 .0) (c .before .before .before .before .before .before .next .given .0 .1 .0) (c .before .before .before .before .before .before .next .given .0 .1 .1 .0) (c .before .before .before .before .before .before .next .given .1) in
     omega (arith, f .after, f .within)
 
-atom-facts-requires : tie.Need-atom-facts-requires
-atom-facts-requires c κs = search needs
-
-enum-told : tie.Need-enum-told
-enum-told c = search needs
-
-enum-told-2 : tie.Need-enum-told-2
-enum-told-2 c = search needs
-
-same-length : tie.Need-same-length
-same-length c = search needs
-
 returns : tie.Need-returns
 returns c =
     let a = c .before .before .before .before .before .before .before .before .before .before .before .before .before .before .before .before .before .before .before .before .before .args in
     rw (c .before .before .before .put .ensures, c .atom-facts .ensures, c .before .before .before .before .before .find .ensures)
     (atom-found (settingOf (a .text .now) (a .scope) (a .problem .now) (a .table)) (a .at) (memory (a .names .now) (a .work .now)) (a .to) (c .before .before .before .before .before .before .before .before .before .before .before .before .before .before .before .end .given .0 .0) (word-done (readName 5) (a .text .now) (a .at) (c .before .before .before .before .before .before .before .before .before .before .before .before .before .before .before .before .before .predicate-end .result) (c .before .before .before .before .before .before .before .before .before .before .before .before .before .before .before .before .before .predicate-end .ensures) (c .before .before .before .before .before .before .before .before .before .before .before .before .before .before .before .end .given .0 .0) (c .before .before .before .before .before .before .before .before .before .before .before .before .before .before .before .end .given .1)) (a .table .domain) _ _ _ _ _ (domain-table (a .problem .now) (a .table)) (terms-done (a .text .now) (a .table .domain) (boundIn (a .text .now) (a .scope)) readTermList (c .before .before .before .before .before .before .before .before .before .before .before .before .before .before .before .end .given .0 .0) (memory (a .names .now) (a .work .now)) (a .to + 1) _ (c .before .before .before .before .before .before .before .before .before .before .before .read-arguments .result) (c .before .before .before .before .before .before .before .before .before .before .before .read-arguments .ensures) (c .before .before .before .before .before .before .before .next .given .0 .0) (c .before .before .before .before .before .before .before .next .given .0 .1 .0) (c .before .before .before .before .before .before .before .next .given .0 .1 .1 .0) (c .before .before .before .before .before .before .before .next .given .1)))
-
-same-length-2 : tie.Need-same-length-2
-same-length-2 c = search needs
 
 returns-2 : tie.Need-returns-2
 returns-2 c =
@@ -123,25 +89,25 @@ pub read-atom-spec : {M : Type 1} → statement M
 read-atom-spec =
     tie.close
     (tie.spec
-    predicate-end-requires
-    enum-known-end
-    add-read-arguments
+    (λ c κs. search needs)
+    (λ c. search needs)
+    (λ c. search needs)
     read-arguments-requires
-    enum-known-next
+    (λ c. search needs)
     sub-size
-    find-requires
+    (λ c κs. search needs)
     cast-put
     mul-put
     add-put
     mul-put-2
     add-put-2
-    put-requires
+    (λ c κs. search needs)
     add-t31
-    atom-facts-requires
-    enum-told
-    enum-told-2
-    same-length
+    (λ c κs. search needs)
+    (λ c. search needs)
+    (λ c. search needs)
+    (λ c. search needs)
     returns
-    same-length-2
+    (λ c. search needs)
     returns-2
     returns-3)

@@ -3,9 +3,9 @@
 use borrow.Author.Needs.{needs}
 use native.Mathlib.Omega.{arith}
 use native.Mathlib.Nat.{add-zero}
-use Prim.Native.Nat.{ℕ, _+_, _-_, _≤_, min}
-use mathlib.Core.Path.{_≡_, refl, sym, ap, _∙_}
-use lib.ListN.{getD, take, drop}
+use Prim.Native.Nat.{_+_, _-_, _≤_}
+use mathlib.Core.Path.{_≡_, sym, _∙_}
+use lib.ListN.{take, drop}
 use Rattle.text.specs.memory.Table.{position, indexed}
 use Rattle.text.proofs.Tables.{position-none, position-here, position-next}
 use Rattle.formula.specs.memory.NameTable.{nameIn, namesIn}
@@ -20,19 +20,10 @@ Inv-loop text names at size name count i₀ i =
 abbrev μ-loop : tie.MeasureT-loop
 μ-loop text names at size name count i₀ i = count - i
 
-part-requires : tie.Need-part-requires Inv-loop μ-loop
-part-requires c κs = search needs
-
-name-count-requires : tie.Need-name-count-requires Inv-loop μ-loop
-name-count-requires c κs = search needs
-
 loop-holds : tie.Need-loop-holds Inv-loop μ-loop
 loop-holds c =
     let a = c .before .before .before .args in
     (c .before .part .ensures, omega (arith, c .name-count .ensures), omega arith, namesIn-first (a .text .now) (a .names .now) (c .before .part .result .now) (c .name-count .result) (c .name-count .ensures))
-
-is-name-requires : tie.Need-is-name-requires Inv-loop μ-loop
-is-name-requires c κs = search needs
 
 returns : tie.Need-returns Inv-loop μ-loop
 returns c =
@@ -40,12 +31,6 @@ returns c =
     let l = c .before .before .before .loop in
     let z = position-here (c .before .before .before .before .before .part .result .now) (nameIn (a .text .now) (a .names .now)) (l .i) (c .before .before .before .before .name-count .result - l .i) (omega arith) (sym (c .before .is-name .ensures) ∙ c .if1 .taken) in
     rw (← l .inv .0, l .inv .3, z) (sym (add-zero (l .i)))
-
-add-i : tie.Need-add-i Inv-loop μ-loop
-add-i c = search needs
-
-loop-less : tie.Need-loop-less Inv-loop μ-loop
-loop-less c = search needs
 
 loop-again : tie.Need-loop-again Inv-loop μ-loop
 loop-again c =
@@ -68,12 +53,12 @@ find-name-spec =
     (tie.spec
     Inv-loop
     μ-loop
-    part-requires
-    name-count-requires
+    (λ c κs. search needs)
+    (λ c κs. search needs)
     loop-holds
-    is-name-requires
+    (λ c κs. search needs)
     returns
-    add-i
-    loop-less
+    (λ c. search needs)
+    (λ c. search needs)
     loop-again
     returns-2)

@@ -2,24 +2,14 @@
 -- Assumes nothing.
 use borrow.Author.Needs.{needs}
 use native.Mathlib.Omega.{arith}
-use mathlib.Core.Path.{_≡_}
 use Rattle.formula.proofs.memory.NameTable.{listed-there, listed-full, listed-new}
 use Rattle.formula.proofs.name_table.list_name.Statement.{statement}
 use Rattle.formula.proofs.name_table.list_name.Tie as tie
-
-find-name-requires : tie.Need-find-name-requires
-find-name-requires c κs = search needs
-
-name-count-requires : tie.Need-name-count-requires
-name-count-requires c κs = search needs
 
 returns : tie.Need-returns
 returns c =
     let a = c .before .before .before .before .before .before .args in
     listed-there (a .text .now) (a .at) (a .size) (a .names .now) (c .before .before .before .find-name .result) (c .before .before .before .find-name .ensures) (omega (arith, c .before .name-count .ensures))
-
-with-name-requires : tie.Need-with-name-requires
-with-name-requires c κs = search needs
 
 returns-2 : tie.Need-returns-2
 returns-2 c =
@@ -36,9 +26,9 @@ pub list-name-spec : {M : Type 1} → statement M
 list-name-spec =
     tie.close
     (tie.spec
-    find-name-requires
-    name-count-requires
+    (λ c κs. search needs)
+    (λ c κs. search needs)
     returns
-    with-name-requires
+    (λ c κs. search needs)
     returns-2
     returns-3)

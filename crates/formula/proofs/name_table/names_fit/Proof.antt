@@ -2,8 +2,8 @@
 -- Assumes nothing.
 use borrow.Author.Needs.{needs}
 use native.Mathlib.Omega.{arith}
-use Prim.Native.Nat.{ℕ, _+_, _-_, _≤_}
-use mathlib.Core.Path.{_≡_, refl, sym, ap, _∙_}
+use Prim.Native.Nat.{_+_, _-_, _≤_}
+use mathlib.Core.Path.{_≡_, sym, _∙_}
 use borrow.Author.Tests.{not-true, not-false}
 use Rattle.text.specs.memory.Table.{indexed}
 use Rattle.logic.specs.Limits.{namesShort}
@@ -19,9 +19,6 @@ Inv-loop text names count i₀ i =
 abbrev μ-loop : tie.MeasureT-loop
 μ-loop text names count i₀ i = count - i
 
-name-count-requires : tie.Need-name-count-requires Inv-loop μ-loop
-name-count-requires c κs = search needs
-
 returns : tie.Need-returns Inv-loop μ-loop
 returns c =
     let a = c .before .before .before .args in
@@ -32,20 +29,11 @@ loop-holds c =
     let a = c .before .before .before .args in
     (omega arith, omega arith, fits-short (a .text .now) (a .names .now) (c .before .name-count .result) (c .before .name-count .ensures) (omega arith))
 
-is-short-requires : tie.Need-is-short-requires Inv-loop μ-loop
-is-short-requires c κs = search needs
-
 returns-2 : tie.Need-returns-2 Inv-loop μ-loop
 returns-2 c =
     let a = c .before .before .before .before .before .before .before .args in
     let l = c .before .before .before .loop in
     sym (l .inv .2 ∙ short-stop (nameIn (a .text .now) (a .names .now)) (l .i) (c .before .before .before .before .before .name-count .result - l .i) (omega arith) (sym (c .before .is-short .ensures) ∙ not-true _ (c .if2 .taken)))
-
-add-i : tie.Need-add-i Inv-loop μ-loop
-add-i c = search needs
-
-loop-less : tie.Need-loop-less Inv-loop μ-loop
-loop-less c = search needs
 
 loop-again : tie.Need-loop-again Inv-loop μ-loop
 loop-again c =
@@ -66,12 +54,12 @@ names-fit-spec =
     (tie.spec
     Inv-loop
     μ-loop
-    name-count-requires
+    (λ c κs. search needs)
     returns
     loop-holds
-    is-short-requires
+    (λ c κs. search needs)
     returns-2
-    add-i
-    loop-less
+    (λ c. search needs)
+    (λ c. search needs)
     loop-again
     returns-3)

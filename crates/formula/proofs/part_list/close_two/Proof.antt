@@ -8,11 +8,8 @@ use Rattle.formula.proofs.part_list.close_two.Tie as tie
 returns : tie.Need-returns
 returns c = rw (ne-eqb _ _ (c .if1 .taken))
 
-peek-requires : tie.Need-peek-requires
-peek-requires c κs = search needs
-
 returns-2 : tie.Need-returns-2
 returns-2 c = rw (eq-eqb _ _ (c .before .if1 .left), c .peek .ensures)
 
 pub close-two-spec : {M : Type 1} → statement M
-close-two-spec = tie.close (tie.spec returns peek-requires returns-2)
+close-two-spec = tie.close (tie.spec returns (λ c κs. search needs) returns-2)

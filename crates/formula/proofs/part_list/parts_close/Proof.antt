@@ -4,33 +4,6 @@ use borrow.Author.Needs.{needs}
 use Rattle.formula.proofs.part_list.parts_close.Statement.{statement}
 use Rattle.formula.proofs.part_list.parts_close.Tie as tie
 
-enum-told : tie.Need-enum-told
-enum-told c = search needs
-
-enum-told-2 : tie.Need-enum-told-2
-enum-told-2 c = search needs
-
-close-two-requires : tie.Need-close-two-requires
-close-two-requires c κs = search needs
-
-enum-told-3 : tie.Need-enum-told-3
-enum-told-3 c = search needs
-
-close-two-requires-2 : tie.Need-close-two-requires-2
-close-two-requires-2 c κs = search needs
-
-enum-told-4 : tie.Need-enum-told-4
-enum-told-4 c = search needs
-
-close-two-requires-3 : tie.Need-close-two-requires-3
-close-two-requires-3 c κs = search needs
-
-enum-told-5 : tie.Need-enum-told-5
-enum-told-5 c = search needs
-
-peek-requires : tie.Need-peek-requires
-peek-requires c κs = search needs
-
 returns : tie.Need-returns
 returns c = rw (c .enum-told .given .1)
 
@@ -50,15 +23,15 @@ pub parts-close-spec : {M : Type 1} → statement M
 parts-close-spec =
     tie.close
     (tie.spec
-    enum-told
-    enum-told-2
-    close-two-requires
-    enum-told-3
-    close-two-requires-2
-    enum-told-4
-    close-two-requires-3
-    enum-told-5
-    peek-requires
+    (λ c. search needs)
+    (λ c. search needs)
+    (λ c κs. search needs)
+    (λ c. search needs)
+    (λ c κs. search needs)
+    (λ c. search needs)
+    (λ c κs. search needs)
+    (λ c. search needs)
+    (λ c κs. search needs)
     returns
     returns-2
     returns-3

@@ -69,36 +69,6 @@ emit-clause-returns-2 t c =
     let a = c .before .before .before .before .before .before .args in
     print-nothing (clause-beyond (a .problem .now) (a .table) (a .work .now) (a .at) (a .levels) (c .if2 .taken))
 
-emit-clause-mul-kind-of : (t : ℕ) → emit-clause-lts.Need-mul-kind-of (emit-clause-calls t) (emit-clause-at t) emit-clause.Post
-emit-clause-mul-kind-of t c = search needs
-
-emit-clause-shared-slice-read-kind-of : (t : ℕ) → emit-clause-lts.Need-shared-slice-read-kind-of (emit-clause-calls t) (emit-clause-at t) emit-clause.Post
-emit-clause-shared-slice-read-kind-of t c = search needs
-
-emit-clause-kind-of-requires : (t : ℕ) → emit-clause-lts.Need-kind-of-requires (emit-clause-calls t) (emit-clause-at t) emit-clause.Post
-emit-clause-kind-of-requires t c κs = search needs
-
-emit-clause-add-next : (t : ℕ) → emit-clause-lts.Need-add-next (emit-clause-calls t) (emit-clause-at t) emit-clause.Post
-emit-clause-add-next t c = search needs
-
-emit-clause-emit-opening-requires : (t : ℕ) → emit-clause-lts.Need-emit-opening-requires (emit-clause-calls t) (emit-clause-at t) emit-clause.Post
-emit-clause-emit-opening-requires t c κs = search needs
-
-emit-clause-sub-emit-parts : (t : ℕ) → emit-clause-lts.Need-sub-emit-parts (emit-clause-calls t) (emit-clause-at t) emit-clause.Post
-emit-clause-sub-emit-parts t c = search needs
-
-emit-clause-subformula-count-requires : (t : ℕ) → emit-clause-lts.Need-subformula-count-requires (emit-clause-calls t) (emit-clause-at t) emit-clause.Post
-emit-clause-subformula-count-requires t c κs = search needs
-
-emit-clause-emit-parts-requires : (t : ℕ) → emit-clause-lts.Need-emit-parts-requires (emit-clause-calls t) (emit-clause-at t) emit-clause.Post
-emit-clause-emit-parts-requires t c κs = search needs
-
-emit-clause-emit-closing-requires : (t : ℕ) → emit-clause-lts.Need-emit-closing-requires (emit-clause-calls t) (emit-clause-at t) emit-clause.Post
-emit-clause-emit-closing-requires t c κs = search needs
-
-emit-clause-same-length : (t : ℕ) → emit-clause-lts.Need-same-length (emit-clause-calls t) (emit-clause-at t) emit-clause.Post
-emit-clause-same-length t c = search needs
-
 emit-clause-returns-3 : (t : ℕ) → emit-clause-lts.Need-returns-3 (emit-clause-calls t) (emit-clause-at t) emit-clause.Post
 emit-clause-returns-3 t c =
     let a = c .before .before .before .before .before .before .before .before .before .before .before .before .before .before .before .before .before .before .before .before .before .args in
@@ -121,32 +91,11 @@ emit-parts-returns t c =
     let a = c .before .before .before .before .before .args in
     print-nothing (ap (joined 44) (parts-none (clauseText (a .problem .now) (a .table) (a .levels)) (a .count) (drop (a .at) (a .work .now)) (c .if1 .taken)))
 
-emit-parts-emit-clause-requires : (t : ℕ) → emit-parts-lts.Need-emit-clause-requires (emit-parts-calls t) (emit-parts-at t) emit-parts.Post emit-parts-Inv-loop emit-parts-μ-loop
-emit-parts-emit-clause-requires t c κs = search needs
-
-emit-parts-past-requires : (t : ℕ) → emit-parts-lts.Need-past-requires (emit-parts-calls t) (emit-parts-at t) emit-parts.Post emit-parts-Inv-loop emit-parts-μ-loop
-emit-parts-past-requires t c κs = search needs
-
-emit-parts-sub-pending : (t : ℕ) → emit-parts-lts.Need-sub-pending (emit-parts-calls t) (emit-parts-at t) emit-parts.Post emit-parts-Inv-loop emit-parts-μ-loop
-emit-parts-sub-pending t c = search needs
-
 emit-parts-loop-holds : (t : ℕ) → emit-parts-lts.Need-loop-holds (emit-parts-calls t) (emit-parts-at t) emit-parts.Post emit-parts-Inv-loop emit-parts-μ-loop
 emit-parts-loop-holds t c = (c .past .ensures .1, refl, remains-all)
 
-emit-parts-emit-requires : (t : ℕ) → emit-parts-lts.Need-emit-requires (emit-parts-calls t) (emit-parts-at t) emit-parts.Post emit-parts-Inv-loop emit-parts-μ-loop
-emit-parts-emit-requires t c κs = search needs
-
-emit-parts-emit-clause-requires-2 : (t : ℕ) → emit-parts-lts.Need-emit-clause-requires-2 (emit-parts-calls t) (emit-parts-at t) emit-parts.Post emit-parts-Inv-loop emit-parts-μ-loop
-emit-parts-emit-clause-requires-2 t c κs = search needs
-
 emit-parts-past-requires-2 : (t : ℕ) → emit-parts-lts.Need-past-requires-2 (emit-parts-calls t) (emit-parts-at t) emit-parts.Post emit-parts-Inv-loop emit-parts-μ-loop
 emit-parts-past-requires-2 t c κs = omega (arith, c .before .before .before .before .before .before .before .before .before .before .before .before .before .before .before .before .before .before .before .before .pre, c .before .before .before .before .before .before .before .before .before .loop .inv .0)
-
-emit-parts-sub-pending-2 : (t : ℕ) → emit-parts-lts.Need-sub-pending-2 (emit-parts-calls t) (emit-parts-at t) emit-parts.Post emit-parts-Inv-loop emit-parts-μ-loop
-emit-parts-sub-pending-2 t c = search needs
-
-emit-parts-loop-less : (t : ℕ) → emit-parts-lts.Need-loop-less (emit-parts-calls t) (emit-parts-at t) emit-parts.Post emit-parts-Inv-loop emit-parts-μ-loop
-emit-parts-loop-less t c = search needs
 
 emit-parts-loop-again : (t : ℕ) → emit-parts-lts.Need-loop-again (emit-parts-calls t) (emit-parts-at t) emit-parts.Post emit-parts-Inv-loop emit-parts-μ-loop
 emit-parts-loop-again t c =
@@ -177,16 +126,16 @@ pub +emit-clause+emit-parts-spec : {M : Type 1} → statement M
     emit-clause.Post
     (emit-clause-returns t)
     (emit-clause-returns-2 t)
-    (emit-clause-mul-kind-of t)
-    (emit-clause-shared-slice-read-kind-of t)
-    (emit-clause-kind-of-requires t)
-    (emit-clause-add-next t)
-    (emit-clause-emit-opening-requires t)
-    (emit-clause-sub-emit-parts t)
-    (emit-clause-subformula-count-requires t)
-    (emit-clause-emit-parts-requires t)
-    (emit-clause-emit-closing-requires t)
-    (emit-clause-same-length t)
+    (λ c. search needs)
+    (λ c. search needs)
+    (λ c κs. search needs)
+    (λ c. search needs)
+    (λ c κs. search needs)
+    (λ c. search needs)
+    (λ c κs. search needs)
+    (λ c κs. search needs)
+    (λ c κs. search needs)
+    (λ c. search needs)
     (emit-clause-returns-3 t))
     λ t. emit-parts-lts.spec (emit-parts-calls t)
     (emit-parts-at t)
@@ -194,15 +143,15 @@ pub +emit-clause+emit-parts-spec : {M : Type 1} → statement M
     emit-parts-Inv-loop
     emit-parts-μ-loop
     (emit-parts-returns t)
-    (emit-parts-emit-clause-requires t)
-    (emit-parts-past-requires t)
-    (emit-parts-sub-pending t)
+    (λ c κs. search needs)
+    (λ c κs. search needs)
+    (λ c. search needs)
     (emit-parts-loop-holds t)
-    (emit-parts-emit-requires t)
-    (emit-parts-emit-clause-requires-2 t)
+    (λ c κs. search needs)
+    (λ c κs. search needs)
     (emit-parts-past-requires-2 t)
-    (emit-parts-sub-pending-2 t)
-    (emit-parts-loop-less t)
+    (λ c. search needs)
+    (λ c. search needs)
     (emit-parts-loop-again t)
     (emit-parts-same-length t)
     (emit-parts-returns-2 t)

@@ -28,35 +28,8 @@ emit-number-below t =
 abbrev emit-number-calls : ℕ → emit-number-lts.Claims
 emit-number-calls t = (emit-reads.Asked, emit-reads.Learnt, emit-number-below t, emit-number.Post)
 
-emit-number-cast-emit : (t : ℕ) → emit-number-lts.Need-cast-emit (emit-number-calls t) (emit-number-at t) emit-number.Post
-emit-number-cast-emit t c = search needs
-
-emit-number-add-emit : (t : ℕ) → emit-number-lts.Need-add-emit (emit-number-calls t) (emit-number-at t) emit-number.Post
-emit-number-add-emit t c = search needs
-
-emit-number-emit-requires : (t : ℕ) → emit-number-lts.Need-emit-requires (emit-number-calls t) (emit-number-at t) emit-number.Post
-emit-number-emit-requires t c κs = search needs
-
-emit-number-same-length : (t : ℕ) → emit-number-lts.Need-same-length (emit-number-calls t) (emit-number-at t) emit-number.Post
-emit-number-same-length t c = search needs
-
 emit-number-returns : (t : ℕ) → emit-number-lts.Need-returns (emit-number-calls t) (emit-number-at t) emit-number.Post
 emit-number-returns t c = print-as (decimal-one (c .before .before .before .before .before .before .before .args .n) (c .before .before .before .before .if1 .taken)) (c .before .before .emit .ensures)
-
-emit-number-emit-number-requires : (t : ℕ) → emit-number-lts.Need-emit-number-requires (emit-number-calls t) (emit-number-at t) emit-number.Post
-emit-number-emit-number-requires t c κs = search needs
-
-emit-number-cast-emit-2 : (t : ℕ) → emit-number-lts.Need-cast-emit-2 (emit-number-calls t) (emit-number-at t) emit-number.Post
-emit-number-cast-emit-2 t c = search needs
-
-emit-number-add-emit-2 : (t : ℕ) → emit-number-lts.Need-add-emit-2 (emit-number-calls t) (emit-number-at t) emit-number.Post
-emit-number-add-emit-2 t c = search needs
-
-emit-number-emit-requires-2 : (t : ℕ) → emit-number-lts.Need-emit-requires-2 (emit-number-calls t) (emit-number-at t) emit-number.Post
-emit-number-emit-requires-2 t c κs = search needs
-
-emit-number-same-length-2 : (t : ℕ) → emit-number-lts.Need-same-length-2 (emit-number-calls t) (emit-number-at t) emit-number.Post
-emit-number-same-length-2 t c = search needs
 
 emit-number-returns-2 : (t : ℕ) → emit-number-lts.Need-returns-2 (emit-number-calls t) (emit-number-at t) emit-number.Post
 emit-number-returns-2 t c = print-as (decimal-more (c .before .before .before .before .before .before .before .before .before .before .before .args .n) (c .before .before .before .before .before .before .before .before .if1 .left)) (print-then (c .before .before .before .before .before .before .emit-number .ensures) (c .before .before .emit2 .ensures))
@@ -65,14 +38,14 @@ pub +emit-number-spec : {M : Type 1} → statement M
 +emit-number-spec = close μ-emit-number λ t. emit-number-lts.spec (emit-number-calls t)
     (emit-number-at t)
     emit-number.Post
-    (emit-number-cast-emit t)
-    (emit-number-add-emit t)
-    (emit-number-emit-requires t)
-    (emit-number-same-length t)
+    (λ c. search needs)
+    (λ c. search needs)
+    (λ c κs. search needs)
+    (λ c. search needs)
     (emit-number-returns t)
-    (emit-number-emit-number-requires t)
-    (emit-number-cast-emit-2 t)
-    (emit-number-add-emit-2 t)
-    (emit-number-emit-requires-2 t)
-    (emit-number-same-length-2 t)
+    (λ c κs. search needs)
+    (λ c. search needs)
+    (λ c. search needs)
+    (λ c κs. search needs)
+    (λ c. search needs)
     (emit-number-returns-2 t)

@@ -8,28 +8,10 @@ use lib.ListN.{drop}
 use Rattle.formula.proofs.print.emit_atom.Statement.{statement}
 use Rattle.formula.proofs.print.emit_atom.Tie as tie
 
-emit-name-requires : tie.Need-emit-name-requires
-emit-name-requires c κs = search needs
-
-same-length : tie.Need-same-length
-same-length c = search needs
-
 returns : tie.Need-returns
 returns c =
     let a = c .before .before .before .before .before .before .before .before .before .args in
     print-as (atom-plain (a .problem .now) (a .table) (a .predicate) (a .count) (drop (a .at) (a .work .now)) (c .if1 .taken)) (c .before .before .before .emit-name .ensures)
-
-emit-requires : tie.Need-emit-requires
-emit-requires c κs = search needs
-
-emit-elements-requires : tie.Need-emit-elements-requires
-emit-elements-requires c κs = search needs
-
-emit-requires-2 : tie.Need-emit-requires-2
-emit-requires-2 c κs = search needs
-
-same-length-2 : tie.Need-same-length-2
-same-length-2 c = search needs
 
 returns-2 : tie.Need-returns-2
 returns-2 c =
@@ -41,11 +23,11 @@ pub emit-atom-spec : {M : Type 1} → statement M
 emit-atom-spec =
     tie.close
     (tie.spec
-    emit-name-requires
-    same-length
+    (λ c κs. search needs)
+    (λ c. search needs)
     returns
-    emit-requires
-    emit-elements-requires
-    emit-requires-2
-    same-length-2
+    (λ c κs. search needs)
+    (λ c κs. search needs)
+    (λ c κs. search needs)
+    (λ c. search needs)
     returns-2)

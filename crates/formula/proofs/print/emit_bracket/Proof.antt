@@ -8,26 +8,8 @@ use Rattle.formula.proofs.memory.ClauseText.{closing-all, closing-any}
 use Rattle.formula.proofs.print.emit_bracket.Statement.{statement}
 use Rattle.formula.proofs.print.emit_bracket.Tie as tie
 
-enum-told : tie.Need-enum-told
-enum-told c = search needs
-
-enum-told-2 : tie.Need-enum-told-2
-enum-told-2 c = search needs
-
-enum-told-3 : tie.Need-enum-told-3
-enum-told-3 c = search needs
-
-enum-told-4 : tie.Need-enum-told-4
-enum-told-4 c = search needs
-
-enum-known-sign : tie.Need-enum-known-sign
-enum-known-sign c = search needs
-
 returns : tie.Need-returns
 returns c = print-nothing (closing-all _ _ (c .before .before .sign .given .1) (c .if1 .taken))
-
-emit-requires : tie.Need-emit-requires
-emit-requires c κs = search needs
 
 returns-2 : tie.Need-returns-2
 returns-2 c = print-nothing (ap signClosing (c .enum-told .given .1))
@@ -41,9 +23,6 @@ returns-4 c = print-nothing (ap signClosing (c .enum-told3 .given .1))
 returns-5 : tie.Need-returns-5
 returns-5 c = print-nothing (ap signClosing (c .enum-told4 .given .1))
 
-same-length : tie.Need-same-length
-same-length c = search needs
-
 returns-6 : tie.Need-returns-6
 returns-6 c = print-as (closing-any _ _ (c .before .before .before .before .before .before .sign .given .1) (c .before .before .before .before .if1 .left)) (c .before .before .emit .ensures)
 
@@ -51,16 +30,16 @@ pub emit-bracket-spec : {M : Type 1} → statement M
 emit-bracket-spec =
     tie.close
     (tie.spec
-    enum-told
-    enum-told-2
-    enum-told-3
-    enum-told-4
-    enum-known-sign
+    (λ c. search needs)
+    (λ c. search needs)
+    (λ c. search needs)
+    (λ c. search needs)
+    (λ c. search needs)
     returns
-    emit-requires
+    (λ c κs. search needs)
     returns-2
     returns-3
     returns-4
     returns-5
-    same-length
+    (λ c. search needs)
     returns-6)

@@ -24,38 +24,11 @@ abbrev μ-loop : tie.MeasureT-loop
 returns : tie.Need-returns Inv-loop μ-loop
 returns c = print-nothing (ap (joined 44) (elements-none (c .before .before .before .before .args .count) (drop (c .before .before .before .before .args .at) (c .before .before .before .before .args .work .now)) (c .if1 .taken)))
 
-element-at-requires : tie.Need-element-at-requires Inv-loop μ-loop
-element-at-requires c κs = search needs
-
-emit-number-requires : tie.Need-emit-number-requires Inv-loop μ-loop
-emit-number-requires c κs = search needs
-
-add-i : tie.Need-add-i Inv-loop μ-loop
-add-i c = search needs
-
-sub-pending : tie.Need-sub-pending Inv-loop μ-loop
-sub-pending c = search needs
-
 loop-holds : tie.Need-loop-holds Inv-loop μ-loop
 loop-holds c = (omega arith, refl, refl, remains-all)
 
-emit-requires : tie.Need-emit-requires Inv-loop μ-loop
-emit-requires c κs = search needs
-
-element-at-requires-2 : tie.Need-element-at-requires-2 Inv-loop μ-loop
-element-at-requires-2 c κs = search needs
-
-emit-number-requires-2 : tie.Need-emit-number-requires-2 Inv-loop μ-loop
-emit-number-requires-2 c κs = search needs
-
 add-i-2 : tie.Need-add-i-2 Inv-loop μ-loop
 add-i-2 c = omega (arith, c .before .before .before .before .before .before .before .before .before .before .before .before .before .before .before .before .before .before .before .before .pre, c .before .before .before .before .before .before .before .before .before .before .loop .inv .1, c .before .before .before .before .before .before .before .before .before .before .loop .inv .0)
-
-sub-pending-2 : tie.Need-sub-pending-2 Inv-loop μ-loop
-sub-pending-2 c = search needs
-
-loop-less : tie.Need-loop-less Inv-loop μ-loop
-loop-less c = search needs
 
 loop-again : tie.Need-loop-again Inv-loop μ-loop
 loop-again c =
@@ -85,17 +58,17 @@ emit-elements-spec =
     Inv-loop
     μ-loop
     returns
-    element-at-requires
-    emit-number-requires
-    add-i
-    sub-pending
+    (λ c κs. search needs)
+    (λ c κs. search needs)
+    (λ c. search needs)
+    (λ c. search needs)
     loop-holds
-    emit-requires
-    element-at-requires-2
-    emit-number-requires-2
+    (λ c κs. search needs)
+    (λ c κs. search needs)
+    (λ c κs. search needs)
     add-i-2
-    sub-pending-2
-    loop-less
+    (λ c. search needs)
+    (λ c. search needs)
     loop-again
     same-length
     returns-2)

@@ -8,35 +8,8 @@ use Rattle.formula.proofs.memory.ClauseText.{opening-all, opening-any}
 use Rattle.formula.proofs.print.emit_sign.Statement.{statement}
 use Rattle.formula.proofs.print.emit_sign.Tie as tie
 
-enum-told : tie.Need-enum-told
-enum-told c = search needs
-
-emit-requires : tie.Need-emit-requires
-emit-requires c κs = search needs
-
-enum-told-2 : tie.Need-enum-told-2
-enum-told-2 c = search needs
-
-enum-told-3 : tie.Need-enum-told-3
-enum-told-3 c = search needs
-
-enum-told-4 : tie.Need-enum-told-4
-enum-told-4 c = search needs
-
-enum-known-sign : tie.Need-enum-known-sign
-enum-known-sign c = search needs
-
 returns : tie.Need-returns
 returns c = print-nothing (opening-all _ _ (c .before .before .sign .given .1) (c .if1 .taken))
-
-slice-aggregate-emit-all : tie.Need-slice-aggregate-emit-all
-slice-aggregate-emit-all c = search needs
-
-emit-all-requires : tie.Need-emit-all-requires
-emit-all-requires c κs = search needs
-
-same-length : tie.Need-same-length
-same-length c = search needs
 
 returns-2 : tie.Need-returns-2
 returns-2 c = print-as (ap signOpening (c .before .before .before .before .enum-told .given .1)) (c .before .before .emit .ensures)
@@ -50,9 +23,6 @@ returns-4 c = print-nothing (ap signOpening (c .enum-told3 .given .1))
 returns-5 : tie.Need-returns-5
 returns-5 c = print-nothing (ap signOpening (c .enum-told4 .given .1))
 
-same-length-2 : tie.Need-same-length-2
-same-length-2 c = search needs
-
 returns-6 : tie.Need-returns-6
 returns-6 c = print-as (opening-any _ _ (c .before .before .before .before .before .before .before .sign .given .1) (c .before .before .before .before .before .if1 .left)) (c .before .before .emit-all .ensures)
 
@@ -60,19 +30,19 @@ pub emit-sign-spec : {M : Type 1} → statement M
 emit-sign-spec =
     tie.close
     (tie.spec
-    enum-told
-    emit-requires
-    enum-told-2
-    enum-told-3
-    enum-told-4
-    enum-known-sign
+    (λ c. search needs)
+    (λ c κs. search needs)
+    (λ c. search needs)
+    (λ c. search needs)
+    (λ c. search needs)
+    (λ c. search needs)
     returns
-    slice-aggregate-emit-all
-    emit-all-requires
-    same-length
+    (λ c. search needs)
+    (λ c κs. search needs)
+    (λ c. search needs)
     returns-2
     returns-3
     returns-4
     returns-5
-    same-length-2
+    (λ c. search needs)
     returns-6)

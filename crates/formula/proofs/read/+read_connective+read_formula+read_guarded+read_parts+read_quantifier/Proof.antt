@@ -5,7 +5,7 @@
 use borrow.Author.Needs.{needs}
 use borrow.Author.Tests.{not-true, not-false}
 use native.Mathlib.Omega.{arith}
-use Prim.Native.Nat.{ℕ, _+_, _-_, _<_}
+use Prim.Native.Nat.{ℕ, _+_, _<_}
 use mathlib.Core.Path.{_≡_, refl, sym, _∙_}
 use lib.ListN.{length, drop}
 use Rattle.logic.specs.Reading.{readVariable, readQuantifier, readFormula}
@@ -166,55 +166,16 @@ read-parts-calls t = (simple-facts-reads.Asked, simple-facts-reads.Learnt, read-
 abbrev read-quantifier-calls : ℕ → read-quantifier-lts.Claims
 read-quantifier-calls t = (variable-end-reads.Asked, variable-end-reads.Learnt, peek-reads.Asked, peek-reads.Learnt, list-name-reads.Asked, list-name-reads.Learnt, with-binding-reads.Asked, with-binding-reads.Learnt, read-guarded-below t, read-guarded.Post, quantifier-word-reads.Asked, quantifier-word-reads.Learnt, put-reads.Asked, put-reads.Learnt, quantifier-facts-reads.Asked, quantifier-facts-reads.Learnt, read-to-reads.Asked, read-to-reads.Learnt)
 
-read-connective-none-follow-requires : (t : ℕ) → read-connective-lts.Need-none-follow-requires (read-connective-calls t) (read-connective-at t) read-connective.Post
-read-connective-none-follow-requires t c κs = search needs
-
-read-connective-connective-word-requires : (t : ℕ) → read-connective-lts.Need-connective-word-requires (read-connective-calls t) (read-connective-at t) read-connective.Post
-read-connective-connective-word-requires t c κs = search needs
-
-read-connective-put-requires : (t : ℕ) → read-connective-lts.Need-put-requires (read-connective-calls t) (read-connective-at t) read-connective.Post
-read-connective-put-requires t c κs = search needs
-
 read-connective-add-read-to : (t : ℕ) → read-connective-lts.Need-add-read-to (read-connective-calls t) (read-connective-at t) read-connective.Post
 read-connective-add-read-to t c =
     let a = c .before .before .before .before .before .before .before .before .before .before .args in
     omega (arith, none-within (a .text .now) (a .at) (connectiveOf (a .sign)) (sym (c .before .before .before .before .before .before .none-follow .ensures) ∙ c .before .before .before .before .before .if1 .taken), c .before .before .before .before .before .before .before .before .before .before .pre .1 .1)
-
-read-connective-simple-facts-requires : (t : ℕ) → read-connective-lts.Need-simple-facts-requires (read-connective-calls t) (read-connective-at t) read-connective.Post
-read-connective-simple-facts-requires t c κs = search needs
-
-read-connective-connective-facts-requires : (t : ℕ) → read-connective-lts.Need-connective-facts-requires (read-connective-calls t) (read-connective-at t) read-connective.Post
-read-connective-connective-facts-requires t c κs = search needs
-
-read-connective-read-to-requires : (t : ℕ) → read-connective-lts.Need-read-to-requires (read-connective-calls t) (read-connective-at t) read-connective.Post
-read-connective-read-to-requires t c κs = search needs
-
-read-connective-same-length : (t : ℕ) → read-connective-lts.Need-same-length (read-connective-calls t) (read-connective-at t) read-connective.Post
-read-connective-same-length t c = search needs
 
 read-connective-returns : (t : ℕ) → read-connective-lts.Need-returns (read-connective-calls t) (read-connective-at t) read-connective.Post
 read-connective-returns t c =
     let a = c .before .before .before .before .before .before .before .before .before .before .before .before .before .args in
     rw (c .read-to .ensures, c .before .before .before .before .before .put .ensures, c .before .before .before .before .before .before .connective-word .ensures, c .before .connective-facts .ensures, c .before .before .simple-facts .ensures)
     (connective-none (settingOf (a .text .now) (a .scope) (a .problem .now) (a .table)) (readFormula (a .levels)) (connectiveOf (a .sign)) (a .at) (sym (c .before .before .before .before .before .before .before .before .before .none-follow .ensures) ∙ c .before .before .before .before .before .before .before .before .if1 .taken) (a .names .now) (a .work .now) (a .to))
-
-read-connective-further-parts-requires : (t : ℕ) → read-connective-lts.Need-further-parts-requires (read-connective-calls t) (read-connective-at t) read-connective.Post
-read-connective-further-parts-requires t c κs = search needs
-
-read-connective-add-read-parts : (t : ℕ) → read-connective-lts.Need-add-read-parts (read-connective-calls t) (read-connective-at t) read-connective.Post
-read-connective-add-read-parts t c = search needs
-
-read-connective-read-parts-requires : (t : ℕ) → read-connective-lts.Need-read-parts-requires (read-connective-calls t) (read-connective-at t) read-connective.Post
-read-connective-read-parts-requires t c κs = search needs
-
-read-connective-enum-known-next : (t : ℕ) → read-connective-lts.Need-enum-known-next (read-connective-calls t) (read-connective-at t) read-connective.Post
-read-connective-enum-known-next t c = search needs
-
-read-connective-parts-close-requires : (t : ℕ) → read-connective-lts.Need-parts-close-requires (read-connective-calls t) (read-connective-at t) read-connective.Post
-read-connective-parts-close-requires t c κs = search needs
-
-read-connective-same-length-2 : (t : ℕ) → read-connective-lts.Need-same-length-2 (read-connective-calls t) (read-connective-at t) read-connective.Post
-read-connective-same-length-2 t c = search needs
 
 read-connective-returns-2 : (t : ℕ) → read-connective-lts.Need-returns-2 (read-connective-calls t) (read-connective-at t) read-connective.Post
 read-connective-returns-2 t c =
@@ -234,12 +195,6 @@ read-connective-connective-word-requires-2 t c κs =
     let f = parts-done (upTo (c .before .before .before .before .before .before .before .before .before .before .before .further-parts .result) (readFormula (a .levels))) (settingOf (a .text .now) (a .scope) (a .problem .now) (a .table)) (a .at) (memory (a .names .now) (a .work .now)) (a .to + 1) _ (c .before .before .before .before .before .before .before .before .read-parts .result) (c .before .before .before .before .before .before .before .before .read-parts .ensures) (c .before .before .before .before .next .given .0 .0) (c .before .before .before .before .next .given .0 .1 .0) (c .before .before .before .before .next .given .0 .1 .1 .0) (c .before .before .before .before .next .given .0 .1 .1 .1 .0) (c .before .before .before .before .next .given .1) in
     omega (arith, parts-few (settingOf (a .text .now) (a .scope) (a .problem .now) (a .table)) (f .taken), f .after, f .within, c .before .before .before .before .before .before .before .before .before .before .before .before .before .before .before .before .before .pre .1 .1)
 
-read-connective-put-requires-2 : (t : ℕ) → read-connective-lts.Need-put-requires-2 (read-connective-calls t) (read-connective-at t) read-connective.Post
-read-connective-put-requires-2 t c κs = search needs
-
-read-connective-close-size-requires : (t : ℕ) → read-connective-lts.Need-close-size-requires (read-connective-calls t) (read-connective-at t) read-connective.Post
-read-connective-close-size-requires t c κs = search needs
-
 read-connective-add-end : (t : ℕ) → read-connective-lts.Need-add-end (read-connective-calls t) (read-connective-at t) read-connective.Post
 read-connective-add-end t c =
     let a = c .before .before .before .before .before .before .before .before .before .before .before .before .before .before .before .before .before .before .before .before .before .before .args in
@@ -252,38 +207,17 @@ read-connective-add-read-to-2 t c =
     let f = parts-done (upTo (c .before .before .before .before .before .before .before .before .before .before .before .before .before .before .before .before .further-parts .result) (readFormula (a .levels))) (settingOf (a .text .now) (a .scope) (a .problem .now) (a .table)) (a .at) (memory (a .names .now) (a .work .now)) (a .to + 1) _ (c .before .before .before .before .before .before .before .before .before .before .before .before .before .read-parts .result) (c .before .before .before .before .before .before .before .before .before .before .before .before .before .read-parts .ensures) (c .before .before .before .before .before .before .before .before .before .next .given .0 .0) (c .before .before .before .before .before .before .before .before .before .next .given .0 .1 .0) (c .before .before .before .before .before .before .before .before .before .next .given .0 .1 .1 .0) (c .before .before .before .before .before .before .before .before .before .next .given .0 .1 .1 .1 .0) (c .before .before .before .before .before .before .before .before .before .next .given .1) in
     omega (arith, f .after, f .within, c .close-size .ensures .1, c .before .before .before .before .before .before .before .before .before .before .before .before .before .before .before .before .before .before .before .before .before .before .pre .1 .1)
 
-read-connective-connective-facts-requires-2 : (t : ℕ) → read-connective-lts.Need-connective-facts-requires-2 (read-connective-calls t) (read-connective-at t) read-connective.Post
-read-connective-connective-facts-requires-2 t c κs = search needs
-
-read-connective-read-to-requires-2 : (t : ℕ) → read-connective-lts.Need-read-to-requires-2 (read-connective-calls t) (read-connective-at t) read-connective.Post
-read-connective-read-to-requires-2 t c κs = search needs
-
-read-connective-enum-told : (t : ℕ) → read-connective-lts.Need-enum-told (read-connective-calls t) (read-connective-at t) read-connective.Post
-read-connective-enum-told t c = search needs
-
-read-connective-enum-told-2 : (t : ℕ) → read-connective-lts.Need-enum-told-2 (read-connective-calls t) (read-connective-at t) read-connective.Post
-read-connective-enum-told-2 t c = search needs
-
-read-connective-same-length-3 : (t : ℕ) → read-connective-lts.Need-same-length-3 (read-connective-calls t) (read-connective-at t) read-connective.Post
-read-connective-same-length-3 t c = search needs
-
 read-connective-returns-3 : (t : ℕ) → read-connective-lts.Need-returns-3 (read-connective-calls t) (read-connective-at t) read-connective.Post
 read-connective-returns-3 t c =
     let a = c .before .before .before .before .before .before .before .before .before .before .before .before .before .before .before .before .before .before .before .before .before .before .before .before .args in
     rw (c .read-to2 .ensures, c .before .before .before .before .before .put2 .ensures, c .before .before .before .before .before .before .connective-word2 .ensures, c .before .connective-facts2 .ensures, c .before .before .close-size .ensures .0)
     (connective-found (settingOf (a .text .now) (a .scope) (a .problem .now) (a .table)) (readFormula (a .levels)) (connectiveOf (a .sign)) (a .at) (shrinks-formula (a .levels)) (sym (c .before .before .before .before .before .before .before .before .before .before .before .before .before .before .before .before .before .before .before .before .none-follow .ensures) ∙ c .before .before .before .before .before .before .before .before .before .before .before .before .before .before .before .before .before .before .before .if1 .left) (c .before .before .before .before .before .before .before .before .before .before .before .before .before .before .before .before .before .before .further-parts .result) (c .before .before .before .before .before .before .before .before .before .before .before .before .before .before .before .before .before .before .further-parts .ensures) (memory (a .names .now) (a .work .now)) (a .to) (c .before .before .before .before .before .before .before .before .before .before .before .next .given .0 .0) (c .before .before .before .before .before .before .before .before .before .before .before .next .given .0 .1 .0) (c .before .before .before .before .before .before .before .before .before .before .before .next .given .0 .1 .1 .0) (c .before .before .before .before .before .before .before .before .before .before .before .next .given .0 .1 .1 .1 .0) _ _ (parts-done (upTo (c .before .before .before .before .before .before .before .before .before .before .before .before .before .before .before .before .before .before .further-parts .result) (readFormula (a .levels))) (settingOf (a .text .now) (a .scope) (a .problem .now) (a .table)) (a .at) (memory (a .names .now) (a .work .now)) (a .to + 1) _ (c .before .before .before .before .before .before .before .before .before .before .before .before .before .before .before .read-parts .result) (c .before .before .before .before .before .before .before .before .before .before .before .before .before .before .before .read-parts .ensures) (c .before .before .before .before .before .before .before .before .before .before .before .next .given .0 .0) (c .before .before .before .before .before .before .before .before .before .before .before .next .given .0 .1 .0) (c .before .before .before .before .before .before .before .before .before .before .before .next .given .0 .1 .1 .0) (c .before .before .before .before .before .before .before .before .before .before .before .next .given .0 .1 .1 .1 .0) (c .before .before .before .before .before .before .before .before .before .before .before .next .given .1)) (sym (c .before .before .before .before .before .before .before .before .before .parts-close .ensures) ∙ not-false _ (c .before .before .before .before .before .before .before .before .if2 .left)))
 
-read-connective-same-length-4 : (t : ℕ) → read-connective-lts.Need-same-length-4 (read-connective-calls t) (read-connective-at t) read-connective.Post
-read-connective-same-length-4 t c = search needs
-
 read-connective-returns-4 : (t : ℕ) → read-connective-lts.Need-returns-4 (read-connective-calls t) (read-connective-at t) read-connective.Post
 read-connective-returns-4 t c =
     let a = c .before .before .before .before .before .before .before .before .before .before .before .before .before .args in
     λ reader sign same less.
     same ∙ connective-refused (settingOf (a .text .now) (a .scope) (a .problem .now) (a .table)) (readFormula (a .levels)) (connectiveOf (a .sign)) (a .at) (shrinks-formula (a .levels)) (sym (c .before .before .before .before .before .before .before .before .before .none-follow .ensures) ∙ c .before .before .before .before .before .before .before .before .if1 .left) (c .before .before .before .before .before .before .before .further-parts .result) (c .before .before .before .before .before .before .before .further-parts .ensures) 5 (parts-malformed (upTo (c .before .before .before .before .before .before .before .further-parts .result) (readFormula (a .levels))) (settingOf (a .text .now) (a .scope) (a .problem .now) (a .table)) (a .at) (memory (a .names .now) (a .work .now)) (a .to + 1) _ (c .before .before .before .before .read-parts .result) (c .before .before .before .before .read-parts .ensures) (c .enum-told .given .1))
-
-read-connective-same-length-5 : (t : ℕ) → read-connective-lts.Need-same-length-5 (read-connective-calls t) (read-connective-at t) read-connective.Post
-read-connective-same-length-5 t c = search needs
 
 read-connective-returns-5 : (t : ℕ) → read-connective-lts.Need-returns-5 (read-connective-calls t) (read-connective-at t) read-connective.Post
 read-connective-returns-5 t c =
@@ -294,29 +228,11 @@ read-connective-returns-5 t c =
 read-formula-returns : (t : ℕ) → read-formula-lts.Need-returns (read-formula-calls t) (read-formula-at t) read-formula.Post
 read-formula-returns t c = let a = c .before .before .before .before .args in no-level (a .levels) _ (c .if1 .taken)
 
-read-formula-sub-left : (t : ℕ) → read-formula-lts.Need-sub-left (read-formula-calls t) (read-formula-at t) read-formula.Post
-read-formula-sub-left t c = search needs
-
-read-formula-opening-at-requires : (t : ℕ) → read-formula-lts.Need-opening-at-requires (read-formula-calls t) (read-formula-at t) read-formula.Post
-read-formula-opening-at-requires t c κs = search needs
-
-read-formula-enum-told : (t : ℕ) → read-formula-lts.Need-enum-told (read-formula-calls t) (read-formula-at t) read-formula.Post
-read-formula-enum-told t c = search needs
-
-read-formula-read-leaf-requires : (t : ℕ) → read-formula-lts.Need-read-leaf-requires (read-formula-calls t) (read-formula-at t) read-formula.Post
-read-formula-read-leaf-requires t c κs = search needs
-
-read-formula-enum-known-sign : (t : ℕ) → read-formula-lts.Need-enum-known-sign (read-formula-calls t) (read-formula-at t) read-formula.Post
-read-formula-enum-known-sign t c = search needs
-
 read-formula-read-connective-requires : (t : ℕ) → read-formula-lts.Need-read-connective-requires (read-formula-calls t) (read-formula-at t) read-formula.Post
 read-formula-read-connective-requires t c κs =
     let a = c .before .before .before .before .before .before .before .before .before .before .args in
     let o = opens-so (a .text .now) (a .at) (c .before .before .before .before .before .before .before .before .before .before .pre .1 .0) (c .before .before .before .before .before .opening-at .result) (c .before .before .before .before .before .opening-at .ensures) (opening.Connective (c .before .before .before .sign .given .0 .0) (c .before .before .before .sign .given .0 .1 .0)) (c .before .before .before .sign .given .1) in
     (omega (arith, c .before .before .before .before .before .before .before .before .before .before .pre .0), (omega (arith, o .within), omega arith, omega (arith, o .after), omega arith, omega arith, omega arith))
-
-read-formula-enum-known-every : (t : ℕ) → read-formula-lts.Need-enum-known-every (read-formula-calls t) (read-formula-at t) read-formula.Post
-read-formula-enum-known-every t c = search needs
 
 read-formula-read-quantifier-requires : (t : ℕ) → read-formula-lts.Need-read-quantifier-requires (read-formula-calls t) (read-formula-at t) read-formula.Post
 read-formula-read-quantifier-requires t c κs =
@@ -324,16 +240,10 @@ read-formula-read-quantifier-requires t c κs =
     let o = opens-so (a .text .now) (a .at) (c .before .before .before .before .before .before .before .before .before .before .pre .1 .0) (c .before .before .before .before .before .opening-at .result) (c .before .before .before .before .before .opening-at .ensures) (opening.Quantifier (c .before .before .before .every .given .0 .0) (c .before .before .before .every .given .0 .1 .0)) (c .before .before .before .every .given .1) in
     (omega (arith, c .before .before .before .before .before .before .before .before .before .before .pre .0), (omega (arith, o .within), omega arith, omega (arith, o .after), omega arith, omega arith, omega arith))
 
-read-formula-same-length : (t : ℕ) → read-formula-lts.Need-same-length (read-formula-calls t) (read-formula-at t) read-formula.Post
-read-formula-same-length t c = search needs
-
 read-formula-returns-2 : (t : ℕ) → read-formula-lts.Need-returns-2 (read-formula-calls t) (read-formula-at t) read-formula.Post
 read-formula-returns-2 t c =
     let a = c .before .before .before .before .before .before .before .before .before .before .before .before .args in
     leaf-read (settingOf (a .text .now) (a .scope) (a .problem .now) (a .table)) (a .levels) (c .before .before .before .before .before .before .before .before .if1 .left) (a .at) (memory (a .names .now) (a .work .now)) (a .to) (c .before .before .read-leaf .result) _ (opens-so (a .text .now) (a .at) (c .before .before .before .before .before .before .before .before .before .before .before .before .pre .1 .0) (c .before .before .before .before .before .before .before .opening-at .result) (c .before .before .before .before .before .before .before .opening-at .ensures) opening.Leaf (c .before .before .before .before .before .enum-told .given .1)) (c .before .before .read-leaf .ensures)
-
-read-formula-same-length-2 : (t : ℕ) → read-formula-lts.Need-same-length-2 (read-formula-calls t) (read-formula-at t) read-formula.Post
-read-formula-same-length-2 t c = search needs
 
 read-formula-returns-3 : (t : ℕ) → read-formula-lts.Need-returns-3 (read-formula-calls t) (read-formula-at t) read-formula.Post
 read-formula-returns-3 t c =
@@ -341,32 +251,17 @@ read-formula-returns-3 t c =
     sign-read (settingOf (a .text .now) (a .scope) (a .problem .now) (a .table)) (a .levels) (c .before .before .before .before .before .before .before .before .before .if1 .left) (a .at) (memory (a .names .now) (a .work .now)) (a .to) (c .before .before .read-connective .result) _ (λ r. readConnective r (connectiveOf (c .before .before .before .before .before .before .sign .given .0 .0))) (c .before .before .before .before .before .before .sign .given .0 .1 .0)
     (opens-so (a .text .now) (a .at) (c .before .before .before .before .before .before .before .before .before .before .before .before .before .pre .1 .0) (c .before .before .before .before .before .before .before .before .opening-at .result) (c .before .before .before .before .before .before .before .before .opening-at .ensures) (opening.Connective (c .before .before .before .before .before .before .sign .given .0 .0) (c .before .before .before .before .before .before .sign .given .0 .1 .0)) (c .before .before .before .before .before .before .sign .given .1)) (c .before .before .read-connective .ensures)
 
-read-formula-same-length-3 : (t : ℕ) → read-formula-lts.Need-same-length-3 (read-formula-calls t) (read-formula-at t) read-formula.Post
-read-formula-same-length-3 t c = search needs
-
 read-formula-returns-4 : (t : ℕ) → read-formula-lts.Need-returns-4 (read-formula-calls t) (read-formula-at t) read-formula.Post
 read-formula-returns-4 t c =
     let a = c .before .before .before .before .before .before .before .before .before .before .before .before .before .args in
     sign-read (settingOf (a .text .now) (a .scope) (a .problem .now) (a .table)) (a .levels) (c .before .before .before .before .before .before .before .before .before .if1 .left) (a .at) (memory (a .names .now) (a .work .now)) (a .to) (c .before .before .read-quantifier .result) _ (λ r. readQuantifier r (sideOf (c .before .before .before .before .before .before .every .given .0 .0))) (c .before .before .before .before .before .before .every .given .0 .1 .0)
     (opens-so (a .text .now) (a .at) (c .before .before .before .before .before .before .before .before .before .before .before .before .before .pre .1 .0) (c .before .before .before .before .before .before .before .before .opening-at .result) (c .before .before .before .before .before .before .before .before .opening-at .ensures) (opening.Quantifier (c .before .before .before .before .before .before .every .given .0 .0) (c .before .before .before .before .before .before .every .given .0 .1 .0)) (c .before .before .before .before .before .before .every .given .1)) (c .before .before .read-quantifier .ensures)
 
-read-guarded-read-formula-requires : (t : ℕ) → read-guarded-lts.Need-read-formula-requires (read-guarded-calls t) (read-guarded-at t) read-guarded.Post
-read-guarded-read-formula-requires t c κs = search needs
-
-read-guarded-enum-known-next : (t : ℕ) → read-guarded-lts.Need-enum-known-next (read-guarded-calls t) (read-guarded-at t) read-guarded.Post
-read-guarded-enum-known-next t c = search needs
-
-read-guarded-slice-aggregate-begins-at : (t : ℕ) → read-guarded-lts.Need-slice-aggregate-begins-at (read-guarded-calls t) (read-guarded-at t) read-guarded.Post
-read-guarded-slice-aggregate-begins-at t c = search needs
-
 read-guarded-begins-at-requires : (t : ℕ) → read-guarded-lts.Need-begins-at-requires (read-guarded-calls t) (read-guarded-at t) read-guarded.Post
 read-guarded-begins-at-requires t c κs =
     let a = c .before .before .before .before .before .before .before .before .before .before .before .before .args in
     let g = formula-done (readFormula (a .levels)) (settingOf (a .text .now) (a .scope) (a .problem .now) (a .table)) (a .at) (memory (a .names .now) (a .work .now)) (a .to) _ (c .before .before .before .before .before .before .read-formula .result) (c .before .before .before .before .before .before .read-formula .ensures) (c .before .before .next .given .0 .0) (c .before .before .next .given .0 .1 .0) (c .before .before .next .given .0 .1 .1 .0) (c .before .before .next .given .1) in
     omega (arith, g .within, c .before .before .before .before .before .before .before .before .before .before .before .before .pre .1 .1)
-
-read-guarded-same-length : (t : ℕ) → read-guarded-lts.Need-same-length (read-guarded-calls t) (read-guarded-at t) read-guarded.Post
-read-guarded-same-length t c = search needs
 
 read-guarded-returns : (t : ℕ) → read-guarded-lts.Need-returns (read-guarded-calls t) (read-guarded-at t) read-guarded.Post
 read-guarded-returns t c =
@@ -392,9 +287,6 @@ read-guarded-read-formula-requires-2 t c κs =
     let k = guarded-within (settingOf (a .text .now) (a .scope) (a .problem .now) (a .table)) (readFormula (a .levels)) (a .at) (memory (a .names .now) (a .work .now)) (a .to) (c .before .before .before .before .before .before .next .given .0 .0) (c .before .before .before .before .before .before .next .given .0 .1 .0) (c .before .before .before .before .before .before .next .given .0 .1 .1 .0) _ (formula-done (readFormula (a .levels)) (settingOf (a .text .now) (a .scope) (a .problem .now) (a .table)) (a .at) (memory (a .names .now) (a .work .now)) (a .to) _ (c .before .before .before .before .before .before .before .before .before .before .read-formula .result) (c .before .before .before .before .before .before .before .before .before .before .read-formula .ensures) (c .before .before .before .before .before .before .next .given .0 .0) (c .before .before .before .before .before .before .next .given .0 .1 .0) (c .before .before .before .before .before .before .next .given .0 .1 .1 .0) (c .before .before .before .before .before .before .next .given .1)) (sym (c .before .before .before .begins-at .ensures) ∙ not-false _ (c .before .before .if1 .left)) in
     (omega (arith, c .before .before .before .before .before .before .before .before .before .before .before .before .before .before .before .before .pre .0), (omega arith, omega arith, omega (arith, g .after, c .before .before .before .before .before .before .before .before .before .before .before .before .before .before .before .before .pre .1 .2), omega arith, omega arith, omega arith))
 
-read-guarded-enum-known-end : (t : ℕ) → read-guarded-lts.Need-enum-known-end (read-guarded-calls t) (read-guarded-at t) read-guarded.Post
-read-guarded-enum-known-end t c = search needs
-
 read-guarded-add-t33 : (t : ℕ) → read-guarded-lts.Need-add-t33 (read-guarded-calls t) (read-guarded-at t) read-guarded.Post
 read-guarded-add-t33 t c =
     let a = c .before .before .before .before .before .before .before .before .before .before .before .before .before .before .before .before .before .before .before .before .before .before .args in
@@ -402,52 +294,25 @@ read-guarded-add-t33 t c =
     let f = formula-done (readFormula (a .levels)) (settingOf (a .text .now) (a .scope) (a .problem .now) (a .table)) (c .before .before .before .before .before .before .before .before .before .before .before .before .next .given .0 .0 + 2) _ (a .to + c .before .before .before .before .before .before .before .before .before .before .before .before .next .given .0 .1 .0) _ (c .before .before .before .before .before .read-formula2 .result) (c .before .before .before .before .before .read-formula2 .ensures) (c .before .end .given .0 .0) (c .before .end .given .0 .1 .0) (c .before .end .given .0 .1 .1 .0) (c .before .end .given .1) in
     omega (arith, g .after, g .within, f .after, f .within, c .before .before .before .before .before .before .before .before .before .before .before .before .before .before .before .before .before .before .before .before .before .before .pre .1 .1)
 
-read-guarded-enum-told : (t : ℕ) → read-guarded-lts.Need-enum-told (read-guarded-calls t) (read-guarded-at t) read-guarded.Post
-read-guarded-enum-told t c = search needs
-
-read-guarded-enum-told-2 : (t : ℕ) → read-guarded-lts.Need-enum-told-2 (read-guarded-calls t) (read-guarded-at t) read-guarded.Post
-read-guarded-enum-told-2 t c = search needs
-
-read-guarded-enum-told-3 : (t : ℕ) → read-guarded-lts.Need-enum-told-3 (read-guarded-calls t) (read-guarded-at t) read-guarded.Post
-read-guarded-enum-told-3 t c = search needs
-
-read-guarded-enum-told-4 : (t : ℕ) → read-guarded-lts.Need-enum-told-4 (read-guarded-calls t) (read-guarded-at t) read-guarded.Post
-read-guarded-enum-told-4 t c = search needs
-
-read-guarded-same-length-2 : (t : ℕ) → read-guarded-lts.Need-same-length-2 (read-guarded-calls t) (read-guarded-at t) read-guarded.Post
-read-guarded-same-length-2 t c = search needs
-
 read-guarded-returns-2 : (t : ℕ) → read-guarded-lts.Need-returns-2 (read-guarded-calls t) (read-guarded-at t) read-guarded.Post
 read-guarded-returns-2 t c =
     let a = c .before .before .before .before .before .before .before .before .before .before .before .before .before .before .before .before .before .before .before .before .before .before .args in
     guarded-found (settingOf (a .text .now) (a .scope) (a .problem .now) (a .table)) (readFormula (a .levels)) (a .at) (memory (a .names .now) (a .work .now)) (a .to) (c .before .before .before .before .before .before .before .before .before .before .before .before .next .given .0 .0) (c .before .before .before .before .before .before .before .before .before .before .before .before .next .given .0 .1 .0) (c .before .before .before .before .before .before .before .before .before .before .before .before .next .given .0 .1 .1 .0) _ (formula-done (readFormula (a .levels)) (settingOf (a .text .now) (a .scope) (a .problem .now) (a .table)) (a .at) (memory (a .names .now) (a .work .now)) (a .to) _ (c .before .before .before .before .before .before .before .before .before .before .before .before .before .before .before .before .read-formula .result) (c .before .before .before .before .before .before .before .before .before .before .before .before .before .before .before .before .read-formula .ensures) (c .before .before .before .before .before .before .before .before .before .before .before .before .next .given .0 .0) (c .before .before .before .before .before .before .before .before .before .before .before .before .next .given .0 .1 .0) (c .before .before .before .before .before .before .before .before .before .before .before .before .next .given .0 .1 .1 .0) (c .before .before .before .before .before .before .before .before .before .before .before .before .next .given .1)) (sym (c .before .before .before .before .before .before .before .before .before .begins-at .ensures) ∙ not-false _ (c .before .before .before .before .before .before .before .before .if1 .left)) (c .before .end .given .0 .0) (c .before .end .given .0 .1 .0) (c .before .end .given .0 .1 .1 .0) _ (formula-done (readFormula (a .levels)) (settingOf (a .text .now) (a .scope) (a .problem .now) (a .table)) (c .before .before .before .before .before .before .before .before .before .before .before .before .next .given .0 .0 + 2) _ (a .to + c .before .before .before .before .before .before .before .before .before .before .before .before .next .given .0 .1 .0) _ (c .before .before .before .before .before .read-formula2 .result) (c .before .before .before .before .before .read-formula2 .ensures) (c .before .end .given .0 .0) (c .before .end .given .0 .1 .0) (c .before .end .given .0 .1 .1 .0) (c .before .end .given .1))
-
-read-guarded-same-length-3 : (t : ℕ) → read-guarded-lts.Need-same-length-3 (read-guarded-calls t) (read-guarded-at t) read-guarded.Post
-read-guarded-same-length-3 t c = search needs
 
 read-guarded-returns-3 : (t : ℕ) → read-guarded-lts.Need-returns-3 (read-guarded-calls t) (read-guarded-at t) read-guarded.Post
 read-guarded-returns-3 t c =
     let a = c .before .before .before .before .before .before .before .before .before .before .before .before .before .before .before .before .before .before .before .before .before .args in
     guarded-bodiless (settingOf (a .text .now) (a .scope) (a .problem .now) (a .table)) (readFormula (a .levels)) (a .at) (memory (a .names .now) (a .work .now)) (a .to) (c .before .before .before .before .before .before .before .before .before .before .before .next .given .0 .0) (c .before .before .before .before .before .before .before .before .before .before .before .next .given .0 .1 .0) (c .before .before .before .before .before .before .before .before .before .before .before .next .given .0 .1 .1 .0) _ (formula-done (readFormula (a .levels)) (settingOf (a .text .now) (a .scope) (a .problem .now) (a .table)) (a .at) (memory (a .names .now) (a .work .now)) (a .to) _ (c .before .before .before .before .before .before .before .before .before .before .before .before .before .before .before .read-formula .result) (c .before .before .before .before .before .before .before .before .before .before .before .before .before .before .before .read-formula .ensures) (c .before .before .before .before .before .before .before .before .before .before .before .next .given .0 .0) (c .before .before .before .before .before .before .before .before .before .before .before .next .given .0 .1 .0) (c .before .before .before .before .before .before .before .before .before .before .before .next .given .0 .1 .1 .0) (c .before .before .before .before .before .before .before .before .before .before .before .next .given .1)) (sym (c .before .before .before .before .before .before .before .before .begins-at .ensures) ∙ not-false _ (c .before .before .before .before .before .before .before .if1 .left)) 5 (formula-malformed (readFormula (a .levels)) (settingOf (a .text .now) (a .scope) (a .problem .now) (a .table)) (c .before .before .before .before .before .before .before .before .before .before .before .next .given .0 .0 + 2) _ (a .to + c .before .before .before .before .before .before .before .before .before .before .before .next .given .0 .1 .0) _ (c .before .before .before .before .read-formula2 .result) (c .before .before .before .before .read-formula2 .ensures) (c .enum-told .given .1))
 
-read-guarded-same-length-4 : (t : ℕ) → read-guarded-lts.Need-same-length-4 (read-guarded-calls t) (read-guarded-at t) read-guarded.Post
-read-guarded-same-length-4 t c = search needs
-
 read-guarded-returns-4 : (t : ℕ) → read-guarded-lts.Need-returns-4 (read-guarded-calls t) (read-guarded-at t) read-guarded.Post
 read-guarded-returns-4 t c =
     let a = c .before .before .before .before .before .before .before .before .before .before .before .before .before .before .before .before .before .before .before .before .before .args in
     guarded-bodiless (settingOf (a .text .now) (a .scope) (a .problem .now) (a .table)) (readFormula (a .levels)) (a .at) (memory (a .names .now) (a .work .now)) (a .to) (c .before .before .before .before .before .before .before .before .before .before .before .next .given .0 .0) (c .before .before .before .before .before .before .before .before .before .before .before .next .given .0 .1 .0) (c .before .before .before .before .before .before .before .before .before .before .before .next .given .0 .1 .1 .0) _ (formula-done (readFormula (a .levels)) (settingOf (a .text .now) (a .scope) (a .problem .now) (a .table)) (a .at) (memory (a .names .now) (a .work .now)) (a .to) _ (c .before .before .before .before .before .before .before .before .before .before .before .before .before .before .before .read-formula .result) (c .before .before .before .before .before .before .before .before .before .before .before .before .before .before .before .read-formula .ensures) (c .before .before .before .before .before .before .before .before .before .before .before .next .given .0 .0) (c .before .before .before .before .before .before .before .before .before .before .before .next .given .0 .1 .0) (c .before .before .before .before .before .before .before .before .before .before .before .next .given .0 .1 .1 .0) (c .before .before .before .before .before .before .before .before .before .before .before .next .given .1)) (sym (c .before .before .before .before .before .before .before .before .begins-at .ensures) ∙ not-false _ (c .before .before .before .before .before .before .before .if1 .left)) 6 (formula-deep (readFormula (a .levels)) (settingOf (a .text .now) (a .scope) (a .problem .now) (a .table)) (c .before .before .before .before .before .before .before .before .before .before .before .next .given .0 .0 + 2) _ (a .to + c .before .before .before .before .before .before .before .before .before .before .before .next .given .0 .1 .0) _ (c .before .before .before .before .read-formula2 .result) (c .before .before .before .before .read-formula2 .ensures) (c .enum-told2 .given .1))
 
-read-guarded-same-length-5 : (t : ℕ) → read-guarded-lts.Need-same-length-5 (read-guarded-calls t) (read-guarded-at t) read-guarded.Post
-read-guarded-same-length-5 t c = search needs
-
 read-guarded-returns-5 : (t : ℕ) → read-guarded-lts.Need-returns-5 (read-guarded-calls t) (read-guarded-at t) read-guarded.Post
 read-guarded-returns-5 t c =
     let a = c .before .before .before .before .before .before .before .before .before .before .args in
     guarded-refused (settingOf (a .text .now) (a .scope) (a .problem .now) (a .table)) (readFormula (a .levels)) (a .at) (memory (a .names .now) (a .work .now)) (a .to) 5 (formula-malformed (readFormula (a .levels)) (settingOf (a .text .now) (a .scope) (a .problem .now) (a .table)) (a .at) (memory (a .names .now) (a .work .now)) (a .to) _ (c .before .before .before .before .read-formula .result) (c .before .before .before .before .read-formula .ensures) (c .enum-told3 .given .1))
-
-read-guarded-same-length-6 : (t : ℕ) → read-guarded-lts.Need-same-length-6 (read-guarded-calls t) (read-guarded-at t) read-guarded.Post
-read-guarded-same-length-6 t c = search needs
 
 read-guarded-returns-6 : (t : ℕ) → read-guarded-lts.Need-returns-6 (read-guarded-calls t) (read-guarded-at t) read-guarded.Post
 read-guarded-returns-6 t c =
@@ -462,22 +327,10 @@ read-parts-Inv-loop text at most levels scope problem table names₀ work₀ to 
 abbrev read-parts-μ-loop : read-parts-lts.MeasureT-loop
 read-parts-μ-loop text at most levels scope problem table names₀ work₀ to i₀ more₀ count₀ size₀ facts₀ names work i more count size facts = more
 
-read-parts-simple-facts-requires : (t : ℕ) → read-parts-lts.Need-simple-facts-requires (read-parts-calls t) (read-parts-at t) read-parts.Post read-parts-Inv-loop read-parts-μ-loop
-read-parts-simple-facts-requires t c κs = search needs
-
 read-parts-loop-holds : (t : ℕ) → read-parts-lts.Need-loop-holds (read-parts-calls t) (read-parts-at t) read-parts.Post read-parts-Inv-loop read-parts-μ-loop
 read-parts-loop-holds t c =
     let a = c .before .before .before .before .args in
     (rw (c .simple-facts .ensures) (parts-first (readFormula (a .levels)) (settingOf (a .text .now) (a .scope) (a .problem .now) (a .table)) (a .most) (a .at) (memory (a .names .now) (a .work .now)) (a .to) (c .before .before .before .before .pre .1 .0)), refl)
-
-read-parts-add-read-formula : (t : ℕ) → read-parts-lts.Need-add-read-formula (read-parts-calls t) (read-parts-at t) read-parts.Post read-parts-Inv-loop read-parts-μ-loop
-read-parts-add-read-formula t c = search needs
-
-read-parts-read-formula-requires : (t : ℕ) → read-parts-lts.Need-read-formula-requires (read-parts-calls t) (read-parts-at t) read-parts.Post read-parts-Inv-loop read-parts-μ-loop
-read-parts-read-formula-requires t c κs = search needs
-
-read-parts-enum-known-next : (t : ℕ) → read-parts-lts.Need-enum-known-next (read-parts-calls t) (read-parts-at t) read-parts.Post read-parts-Inv-loop read-parts-μ-loop
-read-parts-enum-known-next t c = search needs
 
 read-parts-add-count : (t : ℕ) → read-parts-lts.Need-add-count (read-parts-calls t) (read-parts-at t) read-parts.Post read-parts-Inv-loop read-parts-μ-loop
 read-parts-add-count t c =
@@ -492,18 +345,6 @@ read-parts-add-size t c =
     let l = c .before .before .before .before .before .before .before .before .loop in
     let f = formula-done (readFormula (a .levels)) (settingOf (a .text .now) (a .scope) (a .problem .now) (a .table)) (l .i) (memory (l .names) (l .work)) (a .to + l .size) _ (c .before .before .before .before .before .read-formula .result) (c .before .before .before .before .before .read-formula .ensures) (c .before .next .given .0 .0) (c .before .next .given .0 .1 .0) (c .before .next .given .0 .1 .1 .0) (c .before .next .given .1) in
     omega (arith, f .after, f .within, c .before .before .before .before .before .before .before .before .before .before .before .before .before .pre .1 .1, l .inv .0 .few, l .inv .0 .after, l .inv .0 .within)
-
-read-parts-facts-beside-requires : (t : ℕ) → read-parts-lts.Need-facts-beside-requires (read-parts-calls t) (read-parts-at t) read-parts.Post read-parts-Inv-loop read-parts-μ-loop
-read-parts-facts-beside-requires t c κs = search needs
-
-read-parts-another-follows-requires : (t : ℕ) → read-parts-lts.Need-another-follows-requires (read-parts-calls t) (read-parts-at t) read-parts.Post read-parts-Inv-loop read-parts-μ-loop
-read-parts-another-follows-requires t c κs = search needs
-
-read-parts-parts-to-requires : (t : ℕ) → read-parts-lts.Need-parts-to-requires (read-parts-calls t) (read-parts-at t) read-parts.Post read-parts-Inv-loop read-parts-μ-loop
-read-parts-parts-to-requires t c κs = search needs
-
-read-parts-same-length : (t : ℕ) → read-parts-lts.Need-same-length (read-parts-calls t) (read-parts-at t) read-parts.Post read-parts-Inv-loop read-parts-μ-loop
-read-parts-same-length t c = search needs
 
 read-parts-returns : (t : ℕ) → read-parts-lts.Need-returns (read-parts-calls t) (read-parts-at t) read-parts.Post read-parts-Inv-loop read-parts-μ-loop
 read-parts-returns t c =
@@ -539,38 +380,17 @@ read-parts-loop-again t c =
       search needs,
     )
 
-read-parts-enum-told : (t : ℕ) → read-parts-lts.Need-enum-told (read-parts-calls t) (read-parts-at t) read-parts.Post read-parts-Inv-loop read-parts-μ-loop
-read-parts-enum-told t c = search needs
-
-read-parts-same-length-2 : (t : ℕ) → read-parts-lts.Need-same-length-2 (read-parts-calls t) (read-parts-at t) read-parts.Post read-parts-Inv-loop read-parts-μ-loop
-read-parts-same-length-2 t c = search needs
-
 read-parts-returns-2 : (t : ℕ) → read-parts-lts.Need-returns-2 (read-parts-calls t) (read-parts-at t) read-parts.Post read-parts-Inv-loop read-parts-μ-loop
 read-parts-returns-2 t c =
     let a = c .before .before .before .before .before .before .before .before .before .before .before .before .args in
     let l = c .before .before .before .before .before .before .before .loop in
     parts-refused (readFormula (a .levels)) (settingOf (a .text .now) (a .scope) (a .problem .now) (a .table)) (a .most) (a .at) (memory (a .names .now) (a .work .now)) (a .to) (l .i) (l .more) (l .count) (l .size) (l .facts) (memory (l .names) (l .work)) (l .inv .0) 5 (formula-malformed (readFormula (a .levels)) (settingOf (a .text .now) (a .scope) (a .problem .now) (a .table)) (l .i) (memory (l .names) (l .work)) (a .to + l .size) _ (c .before .before .before .before .read-formula .result) (c .before .before .before .before .read-formula .ensures) (c .enum-told .given .1))
 
-read-parts-enum-told-2 : (t : ℕ) → read-parts-lts.Need-enum-told-2 (read-parts-calls t) (read-parts-at t) read-parts.Post read-parts-Inv-loop read-parts-μ-loop
-read-parts-enum-told-2 t c = search needs
-
-read-parts-same-length-3 : (t : ℕ) → read-parts-lts.Need-same-length-3 (read-parts-calls t) (read-parts-at t) read-parts.Post read-parts-Inv-loop read-parts-μ-loop
-read-parts-same-length-3 t c = search needs
-
 read-parts-returns-3 : (t : ℕ) → read-parts-lts.Need-returns-3 (read-parts-calls t) (read-parts-at t) read-parts.Post read-parts-Inv-loop read-parts-μ-loop
 read-parts-returns-3 t c =
     let a = c .before .before .before .before .before .before .before .before .before .before .before .before .args in
     let l = c .before .before .before .before .before .before .before .loop in
     parts-refused (readFormula (a .levels)) (settingOf (a .text .now) (a .scope) (a .problem .now) (a .table)) (a .most) (a .at) (memory (a .names .now) (a .work .now)) (a .to) (l .i) (l .more) (l .count) (l .size) (l .facts) (memory (l .names) (l .work)) (l .inv .0) 6 (formula-deep (readFormula (a .levels)) (settingOf (a .text .now) (a .scope) (a .problem .now) (a .table)) (l .i) (memory (l .names) (l .work)) (a .to + l .size) _ (c .before .before .before .before .read-formula .result) (c .before .before .before .before .read-formula .ensures) (c .enum-told2 .given .1))
-
-read-quantifier-variable-end-requires : (t : ℕ) → read-quantifier-lts.Need-variable-end-requires (read-quantifier-calls t) (read-quantifier-at t) read-quantifier.Post
-read-quantifier-variable-end-requires t c κs = search needs
-
-read-quantifier-enum-known-end : (t : ℕ) → read-quantifier-lts.Need-enum-known-end (read-quantifier-calls t) (read-quantifier-at t) read-quantifier.Post
-read-quantifier-enum-known-end t c = search needs
-
-read-quantifier-peek-requires : (t : ℕ) → read-quantifier-lts.Need-peek-requires (read-quantifier-calls t) (read-quantifier-at t) read-quantifier.Post
-read-quantifier-peek-requires t c κs = search needs
 
 read-quantifier-returns : (t : ℕ) → read-quantifier-lts.Need-returns (read-quantifier-calls t) (read-quantifier-at t) read-quantifier.Post
 read-quantifier-returns t c =
@@ -620,14 +440,8 @@ read-quantifier-read-guarded-requires t c κs =
     let k = bracket-within (settingOf (a .text .now) (a .scope) (a .problem .now) (a .table)) (readFormula (a .levels)) (sideOf (a .every)) (a .at) (c .before .before .before .before .before .before .before .before .end .given .0 .0) (word-done readVariable (a .text .now) (a .at) (c .before .before .before .before .before .before .before .before .before .before .variable-end .result) (c .before .before .before .before .before .before .before .before .before .before .variable-end .ensures) (c .before .before .before .before .before .before .before .before .end .given .0 .0) (c .before .before .before .before .before .before .before .before .end .given .1)) (sym (c .before .before .before .before .before .before .peek .ensures) ∙ c .before .before .before .before .before .if1 .left) in
     (omega (arith, c .before .before .before .before .before .before .before .before .before .before .before .before .before .before .pre .0), (omega arith, omega arith, omega (arith, w .after, c .before .before .before .before .before .before .before .before .before .before .before .before .before .before .pre .1 .2), omega arith, omega arith, omega (arith, c .before .before .with-binding .ensures .count, c .before .before .before .before .before .before .before .before .before .before .before .before .before .before .pre .1 .5)))
 
-read-quantifier-enum-known-next : (t : ℕ) → read-quantifier-lts.Need-enum-known-next (read-quantifier-calls t) (read-quantifier-at t) read-quantifier.Post
-read-quantifier-enum-known-next t c = search needs
-
 read-quantifier-quantifier-word-requires : (t : ℕ) → read-quantifier-lts.Need-quantifier-word-requires (read-quantifier-calls t) (read-quantifier-at t) read-quantifier.Post
 read-quantifier-quantifier-word-requires t c κs = omega (arith, c .before .before .before .before .before .before .before .before .before .before .list-name .ensures .small)
-
-read-quantifier-put-requires : (t : ℕ) → read-quantifier-lts.Need-put-requires (read-quantifier-calls t) (read-quantifier-at t) read-quantifier.Post
-read-quantifier-put-requires t c κs = search needs
 
 read-quantifier-add-read-to : (t : ℕ) → read-quantifier-lts.Need-add-read-to (read-quantifier-calls t) (read-quantifier-at t) read-quantifier.Post
 read-quantifier-add-read-to t c =
@@ -640,38 +454,17 @@ read-quantifier-quantifier-facts-requires t c κs =
     let a = c .before .before .before .before .before .before .before .before .before .before .before .before .before .before .before .before .before .before .before .before .before .before .before .before .before .args in
     guarded-few (readGuarded (readFormula (a .levels))) (settingOf (a .text .now) (c .before .before .before .before .before .before .before .before .before .before .before .before .before .with-binding .result) (a .problem .now) (a .table)) (c .before .before .before .before .before .before .before .before .before .before .before .before .before .before .before .before .before .before .before .end .given .0 .0 + 1) _ (a .to + 1) (c .before .before .before .before .before .before .next .given .0 .0) (c .before .before .before .before .before .before .next .given .0 .1 .0) (c .before .before .before .before .before .before .next .given .0 .1 .1 .0) (c .before .before .before .before .before .before .next .given .0 .1 .1 .1 .0) _ (guarded-done (readGuarded (readFormula (a .levels))) (settingOf (a .text .now) (c .before .before .before .before .before .before .before .before .before .before .before .before .before .with-binding .result) (a .problem .now) (a .table)) (c .before .before .before .before .before .before .before .before .before .before .before .before .before .before .before .before .before .before .before .end .given .0 .0 + 1) _ (a .to + 1) _ (c .before .before .before .before .before .before .before .before .before .before .read-guarded .result) (c .before .before .before .before .before .before .before .before .before .before .read-guarded .ensures) (c .before .before .before .before .before .before .next .given .0 .0) (c .before .before .before .before .before .before .next .given .0 .1 .0) (c .before .before .before .before .before .before .next .given .0 .1 .1 .0) (c .before .before .before .before .before .before .next .given .0 .1 .1 .1 .0) (c .before .before .before .before .before .before .next .given .1)) (c .before .before .before .before .before .before .before .before .before .before .before .before .before .before .before .before .before .before .before .before .before .before .before .before .before .pre .1 .1)
 
-read-quantifier-read-to-requires : (t : ℕ) → read-quantifier-lts.Need-read-to-requires (read-quantifier-calls t) (read-quantifier-at t) read-quantifier.Post
-read-quantifier-read-to-requires t c κs = search needs
-
-read-quantifier-enum-told : (t : ℕ) → read-quantifier-lts.Need-enum-told (read-quantifier-calls t) (read-quantifier-at t) read-quantifier.Post
-read-quantifier-enum-told t c = search needs
-
-read-quantifier-enum-told-2 : (t : ℕ) → read-quantifier-lts.Need-enum-told-2 (read-quantifier-calls t) (read-quantifier-at t) read-quantifier.Post
-read-quantifier-enum-told-2 t c = search needs
-
-read-quantifier-enum-told-3 : (t : ℕ) → read-quantifier-lts.Need-enum-told-3 (read-quantifier-calls t) (read-quantifier-at t) read-quantifier.Post
-read-quantifier-enum-told-3 t c = search needs
-
-read-quantifier-same-length : (t : ℕ) → read-quantifier-lts.Need-same-length (read-quantifier-calls t) (read-quantifier-at t) read-quantifier.Post
-read-quantifier-same-length t c = search needs
-
 read-quantifier-returns-2 : (t : ℕ) → read-quantifier-lts.Need-returns-2 (read-quantifier-calls t) (read-quantifier-at t) read-quantifier.Post
 read-quantifier-returns-2 t c =
     let a = c .before .before .before .before .before .before .before .before .before .before .before .before .before .before .before .before .before .before .before .before .before .before .before .before .before .before .before .args in
     rw (c .read-to .ensures, c .before .before .before .before .put .ensures, c .before .before .before .before .before .quantifier-word .ensures, c .before .quantifier-facts .ensures)
     (quantifier-found (settingOf (a .text .now) (a .scope) (a .problem .now) (a .table)) (readFormula (a .levels)) (sideOf (a .every)) (a .at) (c .before .before .before .before .before .before .before .before .before .before .before .before .before .before .before .before .before .before .before .before .before .end .given .0 .0) (word-done readVariable (a .text .now) (a .at) (c .before .before .before .before .before .before .before .before .before .before .before .before .before .before .before .before .before .before .before .before .before .before .before .variable-end .result) (c .before .before .before .before .before .before .before .before .before .before .before .before .before .before .before .before .before .before .before .before .before .before .before .variable-end .ensures) (c .before .before .before .before .before .before .before .before .before .before .before .before .before .before .before .before .before .before .before .before .before .end .given .0 .0) (c .before .before .before .before .before .before .before .before .before .before .before .before .before .before .before .before .before .before .before .before .before .end .given .1)) (sym (c .before .before .before .before .before .before .before .before .before .before .before .before .before .before .before .before .before .before .before .peek .ensures) ∙ c .before .before .before .before .before .before .before .before .before .before .before .before .before .before .before .before .before .before .if1 .left) (boundIn (a .text .now) (c .before .before .before .before .before .before .before .before .before .before .before .before .before .before .before .with-binding .result)) (c .before .before .before .before .before .before .before .before .before .before .before .before .before .before .before .with-binding .ensures .is (a .text .now)) (a .names .now) _ (a .work .now) (a .to) (c .before .before .before .before .before .before .before .before .before .before .before .before .before .before .before .before .list-name .result) (c .before .before .before .before .before .before .before .before .before .before .before .before .before .before .before .before .list-name .ensures) (c .before .before .before .before .before .before .before .before .next .given .0 .0) (c .before .before .before .before .before .before .before .before .next .given .0 .1 .0) (c .before .before .before .before .before .before .before .before .next .given .0 .1 .1 .0) (c .before .before .before .before .before .before .before .before .next .given .0 .1 .1 .1 .0) _ _ (guarded-done (readGuarded (readFormula (a .levels))) (settingOf (a .text .now) (c .before .before .before .before .before .before .before .before .before .before .before .before .before .before .before .with-binding .result) (a .problem .now) (a .table)) (c .before .before .before .before .before .before .before .before .before .before .before .before .before .before .before .before .before .before .before .before .before .end .given .0 .0 + 1) _ (a .to + 1) _ (c .before .before .before .before .before .before .before .before .before .before .before .before .read-guarded .result) (c .before .before .before .before .before .before .before .before .before .before .before .before .read-guarded .ensures) (c .before .before .before .before .before .before .before .before .next .given .0 .0) (c .before .before .before .before .before .before .before .before .next .given .0 .1 .0) (c .before .before .before .before .before .before .before .before .next .given .0 .1 .1 .0) (c .before .before .before .before .before .before .before .before .next .given .0 .1 .1 .1 .0) (c .before .before .before .before .before .before .before .before .next .given .1)))
 
-read-quantifier-same-length-2 : (t : ℕ) → read-quantifier-lts.Need-same-length-2 (read-quantifier-calls t) (read-quantifier-at t) read-quantifier.Post
-read-quantifier-same-length-2 t c = search needs
-
 read-quantifier-returns-3 : (t : ℕ) → read-quantifier-lts.Need-returns-3 (read-quantifier-calls t) (read-quantifier-at t) read-quantifier.Post
 read-quantifier-returns-3 t c =
     let a = c .before .before .before .before .before .before .before .before .before .before .before .before .before .before .before .before .before .before .before .args in
     λ reader sign same less.
     same ∙ quantifier-refused (settingOf (a .text .now) (a .scope) (a .problem .now) (a .table)) (readFormula (a .levels)) (sideOf (a .every)) (a .at) (c .before .before .before .before .before .before .before .before .before .before .before .before .before .end .given .0 .0) (word-done readVariable (a .text .now) (a .at) (c .before .before .before .before .before .before .before .before .before .before .before .before .before .before .before .variable-end .result) (c .before .before .before .before .before .before .before .before .before .before .before .before .before .before .before .variable-end .ensures) (c .before .before .before .before .before .before .before .before .before .before .before .before .before .end .given .0 .0) (c .before .before .before .before .before .before .before .before .before .before .before .before .before .end .given .1)) (sym (c .before .before .before .before .before .before .before .before .before .before .before .peek .ensures) ∙ c .before .before .before .before .before .before .before .before .before .before .if1 .left) 5 (guarded-malformed (readGuarded (readFormula (a .levels))) (settingOf (a .text .now) (c .before .before .before .before .before .before .before .with-binding .result) (a .problem .now) (a .table)) (c .before .before .before .before .before .before .before .before .before .before .before .before .before .end .given .0 .0 + 1) _ (a .to + 1) _ (c .before .before .before .before .read-guarded .result) (c .before .before .before .before .read-guarded .ensures) (c .enum-told .given .1))
-
-read-quantifier-same-length-3 : (t : ℕ) → read-quantifier-lts.Need-same-length-3 (read-quantifier-calls t) (read-quantifier-at t) read-quantifier.Post
-read-quantifier-same-length-3 t c = search needs
 
 read-quantifier-returns-4 : (t : ℕ) → read-quantifier-lts.Need-returns-4 (read-quantifier-calls t) (read-quantifier-at t) read-quantifier.Post
 read-quantifier-returns-4 t c =
@@ -697,117 +490,117 @@ pub +read-connective+read-formula+read-guarded+read-parts+read-quantifier-spec :
     (λ t. read-connective-lts.spec (read-connective-calls t)
     (read-connective-at t)
     read-connective.Post
-    (read-connective-none-follow-requires t)
-    (read-connective-connective-word-requires t)
-    (read-connective-put-requires t)
+    (λ c κs. search needs)
+    (λ c κs. search needs)
+    (λ c κs. search needs)
     (read-connective-add-read-to t)
-    (read-connective-simple-facts-requires t)
-    (read-connective-connective-facts-requires t)
-    (read-connective-read-to-requires t)
-    (read-connective-same-length t)
+    (λ c κs. search needs)
+    (λ c κs. search needs)
+    (λ c κs. search needs)
+    (λ c. search needs)
     (read-connective-returns t)
-    (read-connective-further-parts-requires t)
-    (read-connective-add-read-parts t)
-    (read-connective-read-parts-requires t)
-    (read-connective-enum-known-next t)
-    (read-connective-parts-close-requires t)
-    (read-connective-same-length-2 t)
+    (λ c κs. search needs)
+    (λ c. search needs)
+    (λ c κs. search needs)
+    (λ c. search needs)
+    (λ c κs. search needs)
+    (λ c. search needs)
     (read-connective-returns-2 t)
     (read-connective-cast-connective-word t)
     (read-connective-connective-word-requires-2 t)
-    (read-connective-put-requires-2 t)
-    (read-connective-close-size-requires t)
+    (λ c κs. search needs)
+    (λ c κs. search needs)
     (read-connective-add-end t)
     (read-connective-add-read-to-2 t)
-    (read-connective-connective-facts-requires-2 t)
-    (read-connective-read-to-requires-2 t)
-    (read-connective-enum-told t)
-    (read-connective-enum-told-2 t)
-    (read-connective-same-length-3 t)
+    (λ c κs. search needs)
+    (λ c κs. search needs)
+    (λ c. search needs)
+    (λ c. search needs)
+    (λ c. search needs)
     (read-connective-returns-3 t)
-    (read-connective-same-length-4 t)
+    (λ c. search needs)
     (read-connective-returns-4 t)
-    (read-connective-same-length-5 t)
+    (λ c. search needs)
     (read-connective-returns-5 t))
     (λ t. read-formula-lts.spec (read-formula-calls t)
     (read-formula-at t)
     read-formula.Post
     (read-formula-returns t)
-    (read-formula-sub-left t)
-    (read-formula-opening-at-requires t)
-    (read-formula-enum-told t)
-    (read-formula-read-leaf-requires t)
-    (read-formula-enum-known-sign t)
+    (λ c. search needs)
+    (λ c κs. search needs)
+    (λ c. search needs)
+    (λ c κs. search needs)
+    (λ c. search needs)
     (read-formula-read-connective-requires t)
-    (read-formula-enum-known-every t)
+    (λ c. search needs)
     (read-formula-read-quantifier-requires t)
-    (read-formula-same-length t)
+    (λ c. search needs)
     (read-formula-returns-2 t)
-    (read-formula-same-length-2 t)
+    (λ c. search needs)
     (read-formula-returns-3 t)
-    (read-formula-same-length-3 t)
+    (λ c. search needs)
     (read-formula-returns-4 t))
     (λ t. read-guarded-lts.spec (read-guarded-calls t)
     (read-guarded-at t)
     read-guarded.Post
-    (read-guarded-read-formula-requires t)
-    (read-guarded-enum-known-next t)
-    (read-guarded-slice-aggregate-begins-at t)
+    (λ c κs. search needs)
+    (λ c. search needs)
+    (λ c. search needs)
     (read-guarded-begins-at-requires t)
-    (read-guarded-same-length t)
+    (λ c. search needs)
     (read-guarded-returns t)
     (read-guarded-add-read-formula t)
     (read-guarded-add-read-formula-2 t)
     (read-guarded-read-formula-requires-2 t)
-    (read-guarded-enum-known-end t)
+    (λ c. search needs)
     (read-guarded-add-t33 t)
-    (read-guarded-enum-told t)
-    (read-guarded-enum-told-2 t)
-    (read-guarded-enum-told-3 t)
-    (read-guarded-enum-told-4 t)
-    (read-guarded-same-length-2 t)
+    (λ c. search needs)
+    (λ c. search needs)
+    (λ c. search needs)
+    (λ c. search needs)
+    (λ c. search needs)
     (read-guarded-returns-2 t)
-    (read-guarded-same-length-3 t)
+    (λ c. search needs)
     (read-guarded-returns-3 t)
-    (read-guarded-same-length-4 t)
+    (λ c. search needs)
     (read-guarded-returns-4 t)
-    (read-guarded-same-length-5 t)
+    (λ c. search needs)
     (read-guarded-returns-5 t)
-    (read-guarded-same-length-6 t)
+    (λ c. search needs)
     (read-guarded-returns-6 t))
     (λ t. read-parts-lts.spec (read-parts-calls t)
     (read-parts-at t)
     read-parts.Post
     read-parts-Inv-loop
     read-parts-μ-loop
-    (read-parts-simple-facts-requires t)
+    (λ c κs. search needs)
     (read-parts-loop-holds t)
-    (read-parts-add-read-formula t)
-    (read-parts-read-formula-requires t)
-    (read-parts-enum-known-next t)
+    (λ c. search needs)
+    (λ c κs. search needs)
+    (λ c. search needs)
     (read-parts-add-count t)
     (read-parts-add-size t)
-    (read-parts-facts-beside-requires t)
-    (read-parts-another-follows-requires t)
-    (read-parts-parts-to-requires t)
-    (read-parts-same-length t)
+    (λ c κs. search needs)
+    (λ c κs. search needs)
+    (λ c κs. search needs)
+    (λ c. search needs)
     (read-parts-returns t)
     (read-parts-sub-more t)
     (read-parts-add-i t)
     (read-parts-loop-less t)
     (read-parts-loop-again t)
-    (read-parts-enum-told t)
-    (read-parts-same-length-2 t)
+    (λ c. search needs)
+    (λ c. search needs)
     (read-parts-returns-2 t)
-    (read-parts-enum-told-2 t)
-    (read-parts-same-length-3 t)
+    (λ c. search needs)
+    (λ c. search needs)
     (read-parts-returns-3 t))
     λ t. read-quantifier-lts.spec (read-quantifier-calls t)
     (read-quantifier-at t)
     read-quantifier.Post
-    (read-quantifier-variable-end-requires t)
-    (read-quantifier-enum-known-end t)
-    (read-quantifier-peek-requires t)
+    (λ c κs. search needs)
+    (λ c. search needs)
+    (λ c κs. search needs)
     (read-quantifier-returns t)
     (read-quantifier-sub-list-name t)
     (read-quantifier-list-name-requires t)
@@ -816,19 +609,19 @@ pub +read-connective+read-formula+read-guarded+read-parts+read-quantifier-spec :
     (read-quantifier-add-read-guarded t)
     (read-quantifier-add-read-guarded-2 t)
     (read-quantifier-read-guarded-requires t)
-    (read-quantifier-enum-known-next t)
+    (λ c. search needs)
     (read-quantifier-quantifier-word-requires t)
-    (read-quantifier-put-requires t)
+    (λ c κs. search needs)
     (read-quantifier-add-read-to t)
     (read-quantifier-quantifier-facts-requires t)
-    (read-quantifier-read-to-requires t)
-    (read-quantifier-enum-told t)
-    (read-quantifier-enum-told-2 t)
-    (read-quantifier-enum-told-3 t)
-    (read-quantifier-same-length t)
+    (λ c κs. search needs)
+    (λ c. search needs)
+    (λ c. search needs)
+    (λ c. search needs)
+    (λ c. search needs)
     (read-quantifier-returns-2 t)
-    (read-quantifier-same-length-2 t)
+    (λ c. search needs)
     (read-quantifier-returns-3 t)
-    (read-quantifier-same-length-3 t)
+    (λ c. search needs)
     (read-quantifier-returns-4 t)
     (read-quantifier-returns-5 t)

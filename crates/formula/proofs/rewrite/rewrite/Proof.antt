@@ -9,9 +9,6 @@ use Rattle.formula.proofs.memory.Rewriting.{end-after, stored-as, store
 use Rattle.formula.proofs.rewrite.rewrite.Statement.{statement}
 use Rattle.formula.proofs.rewrite.rewrite.Tie as tie
 
-slice-reshare-prefix-past : tie.Need-slice-reshare-prefix-past
-slice-reshare-prefix-past c = search needs
-
 slice-aggregate-past : tie.Need-slice-aggregate-past
 slice-aggregate-past c = sym (length-take-le (c .before .before .args .full) (c .before .before .args .work .now) (omega (arith, c .before .before .pre .0)))
 
@@ -20,21 +17,12 @@ past-requires c κs =
     let l = length-take-le (c .before .before .args .full) (c .before .before .args .work .now) (omega (arith, c .before .before .pre .0)) in
     omega (arith, c .before .before .pre .0)
 
-enum-known-fit : tie.Need-enum-known-fit
-enum-known-fit c = search needs
-
-truth-word-requires : tie.Need-truth-word-requires
-truth-word-requires c κs = search needs
-
 with-word-requires : tie.Need-with-word-requires
 with-word-requires c κs =
     let a = c .before .before .before .before .before .before .before .before .args in
     let p = c .before .before .before .before .before .before .before .before .pre .0 in
     let l = length-take-le (a .full) (a .work .now) (omega (arith, p)) in
     omega (arith, p, c .before .before .before .before .before .past .ensures .1, end-after (a .work .now) (a .at) (a .full) (a .to) p _ (c .before .before .before .before .before .past .ensures .0))
-
-enum-known-fit-2 : tie.Need-enum-known-fit-2
-enum-known-fit-2 c = search needs
 
 simplify-requires : tie.Need-simplify-requires
 simplify-requires c κs =
@@ -43,9 +31,6 @@ simplify-requires c κs =
     let l = length-take-le (a .full) (a .work .now) (omega (arith, p)) in
     omega (arith, p, c .before .before .before .before .past .ensures .1, end-after (a .work .now) (a .at) (a .full) (a .to) p _ (c .before .before .before .before .past .ensures .0))
 
-enum-told : tie.Need-enum-told
-enum-told c = search needs
-
 instantiate-requires : tie.Need-instantiate-requires
 instantiate-requires c κs =
     let a = c .before .before .before .before .before .before .args in
@@ -53,17 +38,8 @@ instantiate-requires c κs =
     let l = length-take-le (a .full) (a .work .now) (omega (arith, p)) in
     omega (arith, p, c .before .before .before .past .ensures .1, end-after (a .work .now) (a .at) (a .full) (a .to) p _ (c .before .before .before .past .ensures .0))
 
-enum-told-2 : tie.Need-enum-told-2
-enum-told-2 c = search needs
-
 copy-requires : tie.Need-copy-requires
 copy-requires c κs = omega (arith, c .before .before .before .before .before .before .pre .0)
-
-sub-result : tie.Need-sub-result
-sub-result c = search needs
-
-same-length : tie.Need-same-length
-same-length c = search needs
 
 returns : tie.Need-returns
 returns c =
@@ -71,26 +47,17 @@ returns c =
     stored-as (a .work .now) (a .at) (a .full) (a .to) (c .before .before .before .before .before .before .before .before .before .before .before .pre .0) _ (c .before .before .before .before .before .before .before .before .past .ensures .0) (take (a .domain) (a .flags)) (a .fit)
     (rw (c .before .before .before .before .before .before .fit .given .1, c .before .before .before .truth-word .ensures)) (c .before .before .with-word .ensures)
 
-same-length-2 : tie.Need-same-length-2
-same-length-2 c = search needs
-
 returns-2 : tie.Need-returns-2
 returns-2 c =
     let a = c .before .before .before .before .before .before .before .before .before .before .args in
     stored-as (a .work .now) (a .at) (a .full) (a .to) (c .before .before .before .before .before .before .before .before .before .before .pre .0) _ (c .before .before .before .before .before .before .before .past .ensures .0) (take (a .domain) (a .flags)) (a .fit)
     (rw (c .before .before .before .before .before .fit2 .given .1)) (c .before .before .simplify .ensures)
 
-same-length-3 : tie.Need-same-length-3
-same-length-3 c = search needs
-
 returns-3 : tie.Need-returns-3
 returns-3 c =
     let a = c .before .before .before .before .before .before .before .before .before .args in
     stored-as (a .work .now) (a .at) (a .full) (a .to) (c .before .before .before .before .before .before .before .before .before .pre .0) _ (c .before .before .before .before .before .before .past .ensures .0) (take (a .domain) (a .flags)) (a .fit)
     (rw (c .before .before .before .before .enum-told .given .1)) (c .before .before .instantiate .ensures)
-
-same-length-4 : tie.Need-same-length-4
-same-length-4 c = search needs
 
 returns-4 : tie.Need-returns-4
 returns-4 c =
@@ -104,24 +71,24 @@ pub rewrite-spec : {M : Type 1} → statement M
 rewrite-spec =
     tie.close
     (tie.spec
-    slice-reshare-prefix-past
+    (λ c. search needs)
     slice-aggregate-past
     past-requires
-    enum-known-fit
-    truth-word-requires
+    (λ c. search needs)
+    (λ c κs. search needs)
     with-word-requires
-    enum-known-fit-2
+    (λ c. search needs)
     simplify-requires
-    enum-told
+    (λ c. search needs)
     instantiate-requires
-    enum-told-2
+    (λ c. search needs)
     copy-requires
-    sub-result
-    same-length
+    (λ c. search needs)
+    (λ c. search needs)
     returns
-    same-length-2
+    (λ c. search needs)
     returns-2
-    same-length-3
+    (λ c. search needs)
     returns-3
-    same-length-4
+    (λ c. search needs)
     returns-4)

@@ -71,66 +71,6 @@ closed-at-returns-2 t c =
     let a = c .before .before .before .args in
     closed-beyond (a .work .now) (a .at) (a .levels) (a .flags) (c .before .if1 .left) (c .if2 .taken)
 
-closed-at-mul-kind-of : (t : ℕ) → closed-at-lts.Need-mul-kind-of (closed-at-calls t) (closed-at-at t) closed-at.Post
-closed-at-mul-kind-of t c = search needs
-
-closed-at-shared-slice-read-kind-of : (t : ℕ) → closed-at-lts.Need-shared-slice-read-kind-of (closed-at-calls t) (closed-at-at t) closed-at.Post
-closed-at-shared-slice-read-kind-of t c = search needs
-
-closed-at-kind-of-requires : (t : ℕ) → closed-at-lts.Need-kind-of-requires (closed-at-calls t) (closed-at-at t) closed-at.Post
-closed-at-kind-of-requires t c κs = search needs
-
-closed-at-enum-told : (t : ℕ) → closed-at-lts.Need-enum-told (closed-at-calls t) (closed-at-at t) closed-at.Post
-closed-at-enum-told t c = search needs
-
-closed-at-enum-known-terms : (t : ℕ) → closed-at-lts.Need-enum-known-terms (closed-at-calls t) (closed-at-at t) closed-at.Post
-closed-at-enum-known-terms t c = search needs
-
-closed-at-add-terms-closed : (t : ℕ) → closed-at-lts.Need-add-terms-closed (closed-at-calls t) (closed-at-at t) closed-at.Post
-closed-at-add-terms-closed t c = search needs
-
-closed-at-terms-closed-requires : (t : ℕ) → closed-at-lts.Need-terms-closed-requires (closed-at-calls t) (closed-at-at t) closed-at.Post
-closed-at-terms-closed-requires t c κs = search needs
-
-closed-at-enum-told-2 : (t : ℕ) → closed-at-lts.Need-enum-told-2 (closed-at-calls t) (closed-at-at t) closed-at.Post
-closed-at-enum-told-2 t c = search needs
-
-closed-at-add-terms-closed-2 : (t : ℕ) → closed-at-lts.Need-add-terms-closed-2 (closed-at-calls t) (closed-at-at t) closed-at.Post
-closed-at-add-terms-closed-2 t c = search needs
-
-closed-at-terms-closed-requires-2 : (t : ℕ) → closed-at-lts.Need-terms-closed-requires-2 (closed-at-calls t) (closed-at-at t) closed-at.Post
-closed-at-terms-closed-requires-2 t c κs = search needs
-
-closed-at-enum-known-parts : (t : ℕ) → closed-at-lts.Need-enum-known-parts (closed-at-calls t) (closed-at-at t) closed-at.Post
-closed-at-enum-known-parts t c = search needs
-
-closed-at-add-parts-closed : (t : ℕ) → closed-at-lts.Need-add-parts-closed (closed-at-calls t) (closed-at-at t) closed-at.Post
-closed-at-add-parts-closed t c = search needs
-
-closed-at-sub-parts-closed : (t : ℕ) → closed-at-lts.Need-sub-parts-closed (closed-at-calls t) (closed-at-at t) closed-at.Post
-closed-at-sub-parts-closed t c = search needs
-
-closed-at-parts-closed-requires : (t : ℕ) → closed-at-lts.Need-parts-closed-requires (closed-at-calls t) (closed-at-at t) closed-at.Post
-closed-at-parts-closed-requires t c κs = search needs
-
-closed-at-enum-known-variable : (t : ℕ) → closed-at-lts.Need-enum-known-variable (closed-at-calls t) (closed-at-at t) closed-at.Post
-closed-at-enum-known-variable t c = search needs
-
-closed-at-add-parts-closed-2 : (t : ℕ) → closed-at-lts.Need-add-parts-closed-2 (closed-at-calls t) (closed-at-at t) closed-at.Post
-closed-at-add-parts-closed-2 t c = search needs
-
-closed-at-sub-parts-closed-2 : (t : ℕ) → closed-at-lts.Need-sub-parts-closed-2 (closed-at-calls t) (closed-at-at t) closed-at.Post
-closed-at-sub-parts-closed-2 t c = search needs
-
-closed-at-with-flag-requires : (t : ℕ) → closed-at-lts.Need-with-flag-requires (closed-at-calls t) (closed-at-at t) closed-at.Post
-closed-at-with-flag-requires t c κs = search needs
-
-closed-at-parts-closed-requires-2 : (t : ℕ) → closed-at-lts.Need-parts-closed-requires-2 (closed-at-calls t) (closed-at-at t) closed-at.Post
-closed-at-parts-closed-requires-2 t c κs = search needs
-
-closed-at-enum-told-3 : (t : ℕ) → closed-at-lts.Need-enum-told-3 (closed-at-calls t) (closed-at-at t) closed-at.Post
-closed-at-enum-told-3 t c = search needs
-
 closed-at-returns-3 : (t : ℕ) → closed-at-lts.Need-returns-3 (closed-at-calls t) (closed-at-at t) closed-at.Post
 closed-at-returns-3 t c =
     let a = c .before .before .before .before .before .before .before .args in
@@ -184,24 +124,12 @@ parts-closed-μ-loop work at levels count flags i₀ pending₀ i pending = pend
 parts-closed-loop-holds : (t : ℕ) → parts-closed-lts.Need-loop-holds (parts-closed-calls t) (parts-closed-at t) parts-closed.Post parts-closed-Inv-loop parts-closed-μ-loop
 parts-closed-loop-holds t c = (omega arith, refl)
 
-parts-closed-closed-at-requires : (t : ℕ) → parts-closed-lts.Need-closed-at-requires (parts-closed-calls t) (parts-closed-at t) parts-closed.Post parts-closed-Inv-loop parts-closed-μ-loop
-parts-closed-closed-at-requires t c κs = search needs
-
 parts-closed-returns : (t : ℕ) → parts-closed-lts.Need-returns (parts-closed-calls t) (parts-closed-at t) parts-closed.Post parts-closed-Inv-loop parts-closed-μ-loop
 parts-closed-returns t c =
     let a = c .before .before .before .before .before .args in
     let l = c .before .before .before .loop in
     let free = sym (c .before .closed-at .ensures) ∙ not-true _ (c .if1 .taken) in
     sym (l .inv .1 ∙ allClosed-stop (a .work .now) (l .i) (l .pending) (a .flags) (omega arith) (a .levels) free)
-
-parts-closed-past-requires : (t : ℕ) → parts-closed-lts.Need-past-requires (parts-closed-calls t) (parts-closed-at t) parts-closed.Post parts-closed-Inv-loop parts-closed-μ-loop
-parts-closed-past-requires t c κs = search needs
-
-parts-closed-sub-pending : (t : ℕ) → parts-closed-lts.Need-sub-pending (parts-closed-calls t) (parts-closed-at t) parts-closed.Post parts-closed-Inv-loop parts-closed-μ-loop
-parts-closed-sub-pending t c = search needs
-
-parts-closed-loop-less : (t : ℕ) → parts-closed-lts.Need-loop-less (parts-closed-calls t) (parts-closed-at t) parts-closed.Post parts-closed-Inv-loop parts-closed-μ-loop
-parts-closed-loop-less t c = search needs
 
 parts-closed-loop-again : (t : ℕ) → parts-closed-lts.Need-loop-again (parts-closed-calls t) (parts-closed-at t) parts-closed.Post parts-closed-Inv-loop parts-closed-μ-loop
 parts-closed-loop-again t c =
@@ -226,26 +154,26 @@ pub +closed-at+parts-closed-spec : {M : Type 1} → statement M
     closed-at.Post
     (closed-at-returns t)
     (closed-at-returns-2 t)
-    (closed-at-mul-kind-of t)
-    (closed-at-shared-slice-read-kind-of t)
-    (closed-at-kind-of-requires t)
-    (closed-at-enum-told t)
-    (closed-at-enum-known-terms t)
-    (closed-at-add-terms-closed t)
-    (closed-at-terms-closed-requires t)
-    (closed-at-enum-told-2 t)
-    (closed-at-add-terms-closed-2 t)
-    (closed-at-terms-closed-requires-2 t)
-    (closed-at-enum-known-parts t)
-    (closed-at-add-parts-closed t)
-    (closed-at-sub-parts-closed t)
-    (closed-at-parts-closed-requires t)
-    (closed-at-enum-known-variable t)
-    (closed-at-add-parts-closed-2 t)
-    (closed-at-sub-parts-closed-2 t)
-    (closed-at-with-flag-requires t)
-    (closed-at-parts-closed-requires-2 t)
-    (closed-at-enum-told-3 t)
+    (λ c. search needs)
+    (λ c. search needs)
+    (λ c κs. search needs)
+    (λ c. search needs)
+    (λ c. search needs)
+    (λ c. search needs)
+    (λ c κs. search needs)
+    (λ c. search needs)
+    (λ c. search needs)
+    (λ c κs. search needs)
+    (λ c. search needs)
+    (λ c. search needs)
+    (λ c. search needs)
+    (λ c κs. search needs)
+    (λ c. search needs)
+    (λ c. search needs)
+    (λ c. search needs)
+    (λ c κs. search needs)
+    (λ c κs. search needs)
+    (λ c. search needs)
     (closed-at-returns-3 t)
     (closed-at-returns-4 t)
     (closed-at-returns-5 t)
@@ -258,10 +186,10 @@ pub +closed-at+parts-closed-spec : {M : Type 1} → statement M
     parts-closed-Inv-loop
     parts-closed-μ-loop
     (parts-closed-loop-holds t)
-    (parts-closed-closed-at-requires t)
+    (λ c κs. search needs)
     (parts-closed-returns t)
-    (parts-closed-past-requires t)
-    (parts-closed-sub-pending t)
-    (parts-closed-loop-less t)
+    (λ c κs. search needs)
+    (λ c. search needs)
+    (λ c. search needs)
     (parts-closed-loop-again t)
     (parts-closed-returns-2 t)

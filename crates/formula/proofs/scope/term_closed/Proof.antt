@@ -8,14 +8,8 @@ use Rattle.formula.proofs.scope.term_closed.Tie as tie
 returns : tie.Need-returns
 returns c = element-closed (c .before .args .word) _ (c .if1 .taken)
 
-cast-x : tie.Need-cast-x
-cast-x c = search needs
-
-array-read-result : tie.Need-array-read-result
-array-read-result c = search needs
-
 returns-2 : tie.Need-returns-2
 returns-2 c = variable-closed (c .before .args .word) (c .before .args .t2) (c .if1 .left)
 
 pub term-closed-spec : {M : Type 1} → statement M
-term-closed-spec = tie.close (tie.spec returns cast-x array-read-result returns-2)
+term-closed-spec = tie.close (tie.spec returns (λ c. search needs) (λ c. search needs) returns-2)

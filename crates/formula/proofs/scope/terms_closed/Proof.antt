@@ -23,27 +23,12 @@ abbrev μ-loop : tie.MeasureT-loop
 loop-holds : tie.Need-loop-holds Inv-loop μ-loop
 loop-holds c = (omega arith, refl, refl)
 
-peek-requires : tie.Need-peek-requires Inv-loop μ-loop
-peek-requires c κs = search needs
-
-term-closed-requires : tie.Need-term-closed-requires Inv-loop μ-loop
-term-closed-requires c κs = search needs
-
 returns : tie.Need-returns Inv-loop μ-loop
 returns c =
     let a = c .before .before .before .before .before .before .args in
     let l = c .before .before .before .before .loop in
     let e = ap (λ (w : ℕ). termClosed (flagged (a .flags)) (termOf indexName w)) (sym (c .before .before .peek .ensures)) ∙ sym (c .before .term-closed .ensures) in
     sym (l .inv .2 ∙ termsClosed-stop (a .work .now) (l .i) (l .pending) (a .flags) (omega arith) (e ∙ not-true _ (c .if1 .taken)))
-
-add-i : tie.Need-add-i Inv-loop μ-loop
-add-i c = search needs
-
-sub-pending : tie.Need-sub-pending Inv-loop μ-loop
-sub-pending c = search needs
-
-loop-less : tie.Need-loop-less Inv-loop μ-loop
-loop-less c = search needs
 
 loop-again : tie.Need-loop-again Inv-loop μ-loop
 loop-again c =
@@ -65,11 +50,11 @@ terms-closed-spec =
     Inv-loop
     μ-loop
     loop-holds
-    peek-requires
-    term-closed-requires
+    (λ c κs. search needs)
+    (λ c κs. search needs)
     returns
-    add-i
-    sub-pending
-    loop-less
+    (λ c. search needs)
+    (λ c. search needs)
+    (λ c. search needs)
     loop-again
     returns-2)

@@ -2,8 +2,8 @@
 -- Assumes nothing.
 use borrow.Author.Needs.{needs}
 use native.Mathlib.Omega.{arith}
-use Prim.Native.Nat.{ℕ, _+_, _-_, _≤_}
-use mathlib.Core.Path.{_≡_, refl, sym, ap, _∙_}
+use Prim.Native.Nat.{_+_, _-_, _≤_}
+use mathlib.Core.Path.{_≡_, sym, _∙_}
 use Rattle.text.specs.Problem.{predicates, declared}
 use Rattle.text.specs.memory.Table.{indexed, tablePredicate}
 use Rattle.formula.specs.memory.Signature.{signatureOf}
@@ -18,28 +18,16 @@ Inv-loop problem table name arity count i₀ i =
 abbrev μ-loop : tie.MeasureT-loop
 μ-loop problem table name arity count i₀ i = count - i
 
-predicate-count-requires : tie.Need-predicate-count-requires Inv-loop μ-loop
-predicate-count-requires c κs = search needs
-
 loop-holds : tie.Need-loop-holds Inv-loop μ-loop
 loop-holds c =
     let a = c .before .before .before .args in
     (omega arith, declared-first (a .problem .now) (a .table) (a .name .now) (c .predicate-count .result) (a .arity) (c .predicate-count .ensures))
-
-is-predicate-requires : tie.Need-is-predicate-requires Inv-loop μ-loop
-is-predicate-requires c κs = search needs
 
 returns : tie.Need-returns Inv-loop μ-loop
 returns c =
     let a = c .before .before .before .before .before .before .before .args in
     let l = c .before .before .before .loop in
     sym (l .inv .1 ∙ declared-here (tablePredicate (a .problem .now) (a .table)) (l .i) (a .name .now) (a .arity) (c .before .before .before .before .predicate-count .result - l .i) (omega arith) (sym (c .before .is-predicate .ensures) ∙ c .if1 .taken))
-
-add-i : tie.Need-add-i Inv-loop μ-loop
-add-i c = search needs
-
-loop-less : tie.Need-loop-less Inv-loop μ-loop
-loop-less c = search needs
 
 loop-again : tie.Need-loop-again Inv-loop μ-loop
 loop-again c =
@@ -60,11 +48,11 @@ is-declared-spec =
     (tie.spec
     Inv-loop
     μ-loop
-    predicate-count-requires
+    (λ c κs. search needs)
     loop-holds
-    is-predicate-requires
+    (λ c κs. search needs)
     returns
-    add-i
-    loop-less
+    (λ c. search needs)
+    (λ c. search needs)
     loop-again
     returns-2)

@@ -2,8 +2,8 @@
 -- Assumes nothing.
 use borrow.Author.Needs.{needs}
 use native.Mathlib.Omega.{arith}
-use Prim.Native.Nat.{ℕ, _+_, _-_, _≤_}
-use mathlib.Core.Path.{_≡_, refl, sym, ap, _∙_}
+use Prim.Native.Nat.{_+_, _-_, _≤_}
+use mathlib.Core.Path.{_≡_, sym, _∙_}
 use Rattle.text.specs.Problem.{isInput, named}
 use Rattle.text.specs.memory.Table.{indexed, tablePredicate}
 use Rattle.formula.specs.memory.Signature.{signatureOf}
@@ -23,20 +23,11 @@ loop-holds c =
     let a = c .before .before .args in
     (omega arith, input-first (a .problem .now) (a .table) (a .name .now))
 
-has-name-requires : tie.Need-has-name-requires Inv-loop μ-loop
-has-name-requires c κs = search needs
-
 returns : tie.Need-returns Inv-loop μ-loop
 returns c =
     let a = c .before .before .before .before .before .before .before .args in
     let l = c .before .before .before .before .loop in
     sym (l .inv .1 ∙ named-here (tablePredicate (a .problem .now) (a .table)) (l .i) (a .name .now) (a .table .inputs - l .i) (omega arith) (sym (c .before .has-name .ensures) ∙ c .if2 .taken))
-
-add-i : tie.Need-add-i Inv-loop μ-loop
-add-i c = search needs
-
-loop-less : tie.Need-loop-less Inv-loop μ-loop
-loop-less c = search needs
 
 loop-again : tie.Need-loop-again Inv-loop μ-loop
 loop-again c =
@@ -58,9 +49,9 @@ is-input-spec =
     Inv-loop
     μ-loop
     loop-holds
-    has-name-requires
+    (λ c κs. search needs)
     returns
-    add-i
-    loop-less
+    (λ c. search needs)
+    (λ c. search needs)
     loop-again
     returns-2)

@@ -18,9 +18,6 @@ Inv-loop work₀ at end count value to unwanted i₀ pending₀ j₀ work i pend
 abbrev μ-loop : tie.MeasureT-loop
 μ-loop work₀ at end count value to unwanted i₀ pending₀ j₀ work i pending j = pending
 
-truth-word-requires : tie.Need-truth-word-requires Inv-loop μ-loop
-truth-word-requires c κs = search needs
-
 loop-holds : tie.Need-loop-holds Inv-loop μ-loop
 loop-holds c = (omega (arith, c .before .before .pre .0), ahead-start _ _ _)
 
@@ -29,9 +26,6 @@ slice-reshare-prefix-peek c = omega (arith, c .before .before .before .before .p
 
 slice-aggregate-peek : tie.Need-slice-aggregate-peek Inv-loop μ-loop
 slice-aggregate-peek c = sym (length-take-le (c .before .before .before .before .before .args .end) (c .before .before .loop .work) (omega (arith, c .before .before .before .before .before .pre .0, ahead-length (c .before .before .loop .inv .1))))
-
-peek-requires : tie.Need-peek-requires Inv-loop μ-loop
-peek-requires c κs = search needs
 
 slice-reshare-prefix-past : tie.Need-slice-reshare-prefix-past Inv-loop μ-loop
 slice-reshare-prefix-past c = omega (arith, c .before .before .before .before .before .before .pre .0, ahead-length (c .before .before .before .loop .inv .1))
@@ -52,12 +46,6 @@ copy-unless-requires c κs =
     let l = length-take-le (a .end) (c .before .before .before .before .before .before .loop .work) (omega (arith, p, ahead-length h)) in
     let range = length-slice (a .at) (a .end) (a .work .now) (omega (arith, p)) in
     omega (arith, p, c .before .past .ensures .0, c .before .past .ensures .1, ahead-length h, h .after, h .ends, length-wordsWithout (a .value) (a .count) (slice (a .at) (a .end) (a .work .now)))
-
-sub-pending : tie.Need-sub-pending Inv-loop μ-loop
-sub-pending c = search needs
-
-loop-less : tie.Need-loop-less Inv-loop μ-loop
-loop-less c = search needs
 
 loop-again : tie.Need-loop-again Inv-loop μ-loop
 loop-again c =
@@ -89,17 +77,17 @@ copy-others-spec =
     (tie.spec
     Inv-loop
     μ-loop
-    truth-word-requires
+    (λ c κs. search needs)
     loop-holds
     slice-reshare-prefix-peek
     slice-aggregate-peek
-    peek-requires
+    (λ c κs. search needs)
     slice-reshare-prefix-past
     slice-aggregate-past
     past-requires
     copy-unless-requires
-    sub-pending
-    loop-less
+    (λ c. search needs)
+    (λ c. search needs)
     loop-again
     same-length
     returns)

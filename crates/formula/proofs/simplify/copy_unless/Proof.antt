@@ -9,14 +9,8 @@ use Rattle.formula.proofs.simplify.copy_unless.Tie as tie
 returns : tie.Need-returns
 returns c = rw (c .if1 .taken) (record { holds = refl; ends = omega arith })
 
-copy-requires : tie.Need-copy-requires
-copy-requires c κs = search needs
-
-same-length : tie.Need-same-length
-same-length c = search needs
-
 returns-2 : tie.Need-returns-2
 returns-2 c = rw (c .before .before .before .before .if1 .left) (c .before .before .copy .ensures)
 
 pub copy-unless-spec : {M : Type 1} → statement M
-copy-unless-spec = tie.close (tie.spec returns copy-requires same-length returns-2)
+copy-unless-spec = tie.close (tie.spec returns (λ c κs. search needs) (λ c. search needs) returns-2)

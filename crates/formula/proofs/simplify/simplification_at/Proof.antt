@@ -7,20 +7,11 @@ use Rattle.formula.proofs.memory.Simplified.{decided, emptied, reduced}
 use Rattle.formula.proofs.simplify.simplification_at.Statement.{statement}
 use Rattle.formula.proofs.simplify.simplification_at.Tie as tie
 
-truth-count-requires : tie.Need-truth-count-requires
-truth-count-requires c κs = search needs
-
 returns : tie.Need-returns
 returns c =
     let a = c .before .before .before .args in
     let s = drop (a .at) (a .work .now) in
     (decided (a .every) (a .parts) s (omega (arith, c .before .truth-count .ensures .0)), tt)
-
-truth-count-requires-2 : tie.Need-truth-count-requires-2
-truth-count-requires-2 c κs = search needs
-
-sub-stay : tie.Need-sub-stay
-sub-stay c = search needs
 
 returns-2 : tie.Need-returns-2
 returns-2 c =
@@ -37,4 +28,4 @@ returns-3 c =
 pub simplification-at-spec : {M : Type 1} → statement M
 simplification-at-spec =
     tie.close
-    (tie.spec truth-count-requires returns truth-count-requires-2 sub-stay returns-2 returns-3)
+    (tie.spec (λ c κs. search needs) returns (λ c κs. search needs) (λ c. search needs) returns-2 returns-3)

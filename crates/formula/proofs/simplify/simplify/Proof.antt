@@ -12,9 +12,6 @@ use Rattle.formula.proofs.memory.Simplified.{simplified-kept, simplifie
 use Rattle.formula.proofs.simplify.simplify.Statement.{statement}
 use Rattle.formula.proofs.simplify.simplify.Tie as tie
 
-copy-requires : tie.Need-copy-requires
-copy-requires c κs = search needs
-
 store-simplified-requires : tie.Need-store-simplified-requires
 store-simplified-requires c κs =
     omega (arith, place-near (c .before .before .before .before .before .before .pre .0) (c .before .before .before .copy .ensures), c .before .before .before .copy .kept .0, c .before .before .before .before .before .before .pre .0)
@@ -35,9 +32,6 @@ sub-result : tie.Need-sub-result
 sub-result c =
     omega (arith, c .before .before .copy2 .ensures .ends, place-near (c .before .before .before .before .before .before .before .before .before .before .before .before .before .pre .0) (c .before .before .before .before .before .before .before .before .before .before .copy .ensures), c .before .before .before .before .before .before .store-simplified .ensures .ends)
 
-same-length : tie.Need-same-length
-same-length c = search needs
-
 returns : tie.Need-returns
 returns c =
     let a = c .before .before .before .before .before .before .before .before .before .before .before .before .before .args in
@@ -51,9 +45,9 @@ pub simplify-spec : {M : Type 1} → statement M
 simplify-spec =
     tie.close
     (tie.spec
-    copy-requires
+    (λ c κs. search needs)
     store-simplified-requires
     copy-requires-2
     sub-result
-    same-length
+    (λ c. search needs)
     returns)

@@ -11,37 +11,13 @@ use Rattle.formula.proofs.memory.Simplified.{value-stores, parts-stores
 use Rattle.formula.proofs.simplify.store_simplified.Statement.{statement}
 use Rattle.formula.proofs.simplify.store_simplified.Tie as tie
 
-mul-parts : tie.Need-mul-parts
-mul-parts c = search needs
-
-slice-read-parts : tie.Need-slice-read-parts
-slice-read-parts c = search needs
-
-slice-reshare-prefix-simplification-at : tie.Need-slice-reshare-prefix-simplification-at
-slice-reshare-prefix-simplification-at c = search needs
-
 slice-aggregate-simplification-at : tie.Need-slice-aggregate-simplification-at
 slice-aggregate-simplification-at c = sym (length-take-le (c .before .before .before .args .end) (c .before .before .before .args .work .now) (omega (arith, c .before .before .before .pre .0)))
-
-add-simplification-at : tie.Need-add-simplification-at
-add-simplification-at c = search needs
 
 simplification-at-requires : tie.Need-simplification-at-requires
 simplification-at-requires c κs =
     let l = length-take-le (c .before .before .before .args .end) (c .before .before .before .args .work .now) (omega (arith, c .before .before .before .pre .0)) in
     omega (arith, c .before .before .before .pre .0)
-
-enum-known-b : tie.Need-enum-known-b
-enum-known-b c = search needs
-
-truth-word-requires : tie.Need-truth-word-requires
-truth-word-requires c κs = search needs
-
-put-requires : tie.Need-put-requires
-put-requires c κs = search needs
-
-enum-known-count : tie.Need-enum-known-count
-enum-known-count c = search needs
 
 junction-word-requires : tie.Need-junction-word-requires
 junction-word-requires c κs =
@@ -49,27 +25,15 @@ junction-word-requires c κs =
     let few = subst (Fewer n) (c .before .before .count .given .1) (c .before .before .before .before .simplification-at .ensures .1) in
     omega (arith, few, c .before .before .before .before .before .before .slice-known2 .given (c .before .before .before .before .before .before .before .before .args .at))
 
-put-requires-2 : tie.Need-put-requires-2
-put-requires-2 c κs = search needs
-
-add-copy-others : tie.Need-add-copy-others
-add-copy-others c = search needs
-
 copy-others-requires : tie.Need-copy-others-requires
 copy-others-requires c κs =
     omega (arith, c .before .before .before .before .before .before .before .before .before .before .before .before .before .pre .0, c .before .before .before .put2 .ensures .ends, c .before .before .before .put2 .kept .0)
-
-same-length : tie.Need-same-length
-same-length c = search needs
 
 returns : tie.Need-returns
 returns c =
     let a = c .before .before .before .before .before .before .before .before .before .before .before .before .args in
     value-stores (a .every) (getD (a .work .now) (a .at) 0 / 16) (a .work .now) (a .at + 1) (a .end) (omega (arith, c .before .before .before .before .before .before .before .before .before .before .before .before .pre .0)) _
     (sym (c .before .before .before .before .before .before .before .before .simplification-at .ensures .0) ∙ c .before .before .before .before .before .before .b .given .1) (c .before .before .before .truth-word .ensures) (c .before .before .put .ensures)
-
-same-length-2 : tie.Need-same-length-2
-same-length-2 c = search needs
 
 returns-2 : tie.Need-returns-2
 returns-2 c =
@@ -81,21 +45,21 @@ pub store-simplified-spec : {M : Type 1} → statement M
 store-simplified-spec =
     tie.close
     (tie.spec
-    mul-parts
-    slice-read-parts
-    slice-reshare-prefix-simplification-at
+    (λ c. search needs)
+    (λ c. search needs)
+    (λ c. search needs)
     slice-aggregate-simplification-at
-    add-simplification-at
+    (λ c. search needs)
     simplification-at-requires
-    enum-known-b
-    truth-word-requires
-    put-requires
-    enum-known-count
+    (λ c. search needs)
+    (λ c κs. search needs)
+    (λ c κs. search needs)
+    (λ c. search needs)
     junction-word-requires
-    put-requires-2
-    add-copy-others
+    (λ c κs. search needs)
+    (λ c. search needs)
     copy-others-requires
-    same-length
+    (λ c. search needs)
     returns
-    same-length-2
+    (λ c. search needs)
     returns-2)

@@ -18,17 +18,8 @@ Inv-loop work at count value sought i₀ pending₀ found₀ i pending found =
 abbrev μ-loop : tie.MeasureT-loop
 μ-loop work at count value sought i₀ pending₀ found₀ i pending found = pending
 
-truth-word-requires : tie.Need-truth-word-requires Inv-loop μ-loop
-truth-word-requires c κs = search needs
-
 loop-holds : tie.Need-loop-holds Inv-loop μ-loop
 loop-holds c = (omega arith, omega arith, omega arith)
-
-peek-requires : tie.Need-peek-requires Inv-loop μ-loop
-peek-requires c κs = search needs
-
-add-found : tie.Need-add-found Inv-loop μ-loop
-add-found c = search needs
 
 past-requires : tie.Need-past-requires Inv-loop μ-loop
 past-requires c κs = omega (arith, c .before .before .before .loop .inv)
@@ -62,10 +53,10 @@ truth-count-spec =
     (tie.spec
     Inv-loop
     μ-loop
-    truth-word-requires
+    (λ c κs. search needs)
     loop-holds
-    peek-requires
-    add-found
+    (λ c κs. search needs)
+    (λ c. search needs)
     past-requires
     sub-pending
     loop-less

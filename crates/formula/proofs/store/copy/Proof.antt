@@ -26,12 +26,6 @@ slice-read-word c = omega (arith, ahead-length (c .before .before .loop .inv .2)
 put-requires : tie.Need-put-requires Inv-loop μ-loop
 put-requires c κs = let a = c .before .before .before .before .before .args in omega (arith, c .before .before .before .loop .inv .2 .ends, length-slice (a .at) (a .end) (a .work .now) (omega arith))
 
-add-i : tie.Need-add-i Inv-loop μ-loop
-add-i c = search needs
-
-loop-less : tie.Need-loop-less Inv-loop μ-loop
-loop-less c = search needs
-
 loop-again : tie.Need-loop-again Inv-loop μ-loop
 loop-again c =
     let a = c .before .before .before .before .before .before .before .before .args in
@@ -57,8 +51,8 @@ copy-spec =
     mul-word
     slice-read-word
     put-requires
-    add-i
-    loop-less
+    (λ c. search needs)
+    (λ c. search needs)
     loop-again
     same-length
     returns)

@@ -17,9 +17,6 @@ Inv-loop work₀ from size end i₀ j₀ work i j =
 abbrev μ-loop : tie.MeasureT-loop
 μ-loop work₀ from size end i₀ j₀ work i j = end - i
 
-add-end : tie.Need-add-end Inv-loop μ-loop
-add-end c = search needs
-
 loop-holds : tie.Need-loop-holds Inv-loop μ-loop
 loop-holds c = (omega arith, omega arith, refl, omega arith, refl, ahead-start _ _ _)
 
@@ -28,15 +25,6 @@ mul-word c = omega (arith, ahead-length (c .before .loop .inv .5))
 
 slice-read-word : tie.Need-slice-read-word Inv-loop μ-loop
 slice-read-word c = omega (arith, ahead-length (c .before .before .loop .inv .5))
-
-put-requires : tie.Need-put-requires Inv-loop μ-loop
-put-requires c κs = search needs
-
-add-i : tie.Need-add-i Inv-loop μ-loop
-add-i c = search needs
-
-loop-less : tie.Need-loop-less Inv-loop μ-loop
-loop-less c = search needs
 
 loop-again : tie.Need-loop-again Inv-loop μ-loop
 loop-again c =
@@ -62,13 +50,13 @@ copy-back-spec =
     (tie.spec
     Inv-loop
     μ-loop
-    add-end
+    (λ c. search needs)
     loop-holds
     mul-word
     slice-read-word
-    put-requires
-    add-i
-    loop-less
+    (λ c κs. search needs)
+    (λ c. search needs)
+    (λ c. search needs)
     loop-again
     same-length
     returns)

@@ -8,9 +8,6 @@ use Rattle.formula.proofs.memory.Storing.{ahead-turn, ahead-length, the
 use Rattle.formula.proofs.store.with_word.Statement.{statement}
 use Rattle.formula.proofs.store.with_word.Tie as tie
 
-copy-requires : tie.Need-copy-requires
-copy-requires c κs = search needs
-
 put-requires : tie.Need-put-requires
 put-requires c κs = omega (arith, place-near (c .before .before .before .before .before .before .pre) (c .before .before .before .copy .ensures))
 
@@ -23,13 +20,10 @@ sub-result : tie.Need-sub-result
 sub-result c =
     omega (arith, c .before .before .copy2 .ensures .ends, place-near (c .before .before .before .before .before .before .before .before .before .before .before .before .before .pre) (c .before .before .before .before .before .before .before .before .before .before .copy .ensures), c .before .before .before .before .before .before .put .ensures .ends)
 
-same-length : tie.Need-same-length
-same-length c = search needs
-
 returns : tie.Need-returns
 returns c =
     theory-ends (c .before .before .before .before .before .before .before .before .before .before .before .before .before .pre) (ahead-turn (theory-starts (c .before .before .before .before .before .before .before .before .before .before .before .before .before .pre) (c .before .before .before .before .before .before .before .before .before .before .before .before .before .args .word ∷ []) (c .before .before .before .before .before .before .before .before .before .before .copy .ensures)) refl (c .before .before .before .before .before .before .put .ensures)) (c .before .before .copy2 .ensures)
 
 pub with-word-spec : {M : Type 1} → statement M
 with-word-spec =
-    tie.close (tie.spec copy-requires put-requires copy-requires-2 sub-result same-length returns)
+    tie.close (tie.spec (λ c κs. search needs) put-requires copy-requires-2 sub-result (λ c. search needs) returns)

@@ -7,12 +7,6 @@ use Rattle.formula.proofs.memory.Storing.{ahead-length, theory-starts, 
 use Rattle.formula.proofs.store.without_word.Statement.{statement}
 use Rattle.formula.proofs.store.without_word.Tie as tie
 
-copy-requires : tie.Need-copy-requires
-copy-requires c κs = search needs
-
-add-copy : tie.Need-add-copy
-add-copy c = search needs
-
 copy-requires-2 : tie.Need-copy-requires-2
 copy-requires-2 c κs =
     let h = theory-starts (c .before .before .before .before .before .before .pre) [] (c .before .before .before .copy .ensures) in
@@ -22,13 +16,10 @@ sub-result : tie.Need-sub-result
 sub-result c =
     omega (arith, c .before .before .copy2 .ensures .ends, place-near (c .before .before .before .before .before .before .before .before .before .pre) (c .before .before .before .before .before .before .copy .ensures))
 
-same-length : tie.Need-same-length
-same-length c = search needs
-
 returns : tie.Need-returns
 returns c =
     theory-ends (c .before .before .before .before .before .before .before .before .before .pre) (theory-starts (c .before .before .before .before .before .before .before .before .before .pre) [] (c .before .before .before .before .before .before .copy .ensures)) (c .before .before .copy2 .ensures)
 
 pub without-word-spec : {M : Type 1} → statement M
 without-word-spec =
-    tie.close (tie.spec copy-requires add-copy copy-requires-2 sub-result same-length returns)
+    tie.close (tie.spec (λ c κs. search needs) (λ c. search needs) copy-requires-2 sub-result (λ c. search needs) returns)

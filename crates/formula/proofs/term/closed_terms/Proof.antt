@@ -2,7 +2,7 @@
 -- Assumes nothing.
 use borrow.Author.Needs.{needs}
 use native.Mathlib.Omega.{arith}
-use mathlib.Core.Path.{_≡_, sym, _∙_}
+use mathlib.Core.Path.{sym, _∙_}
 use Rattle.logic.specs.Reading.{readTerm}
 use Rattle.formula.specs.memory.Lists.{upTo}
 use Rattle.formula.specs.memory.Bindings.{boundIn}
@@ -10,18 +10,6 @@ use Rattle.formula.specs.memory.Entries.{memory}
 use Rattle.formula.proofs.memory.TermReads.{terms-done, terms-malformed, closed-refused, closed-other, closed-found}
 use Rattle.formula.proofs.term.closed_terms.Statement.{statement}
 use Rattle.formula.proofs.term.closed_terms.Tie as tie
-
-read-terms-requires : tie.Need-read-terms-requires
-read-terms-requires c κs = search needs
-
-enum-known-next : tie.Need-enum-known-next
-enum-known-next c = search needs
-
-peek-requires : tie.Need-peek-requires
-peek-requires c κs = search needs
-
-same-length : tie.Need-same-length
-same-length c = search needs
 
 returns : tie.Need-returns
 returns c =
@@ -36,21 +24,12 @@ add-t19 c =
     let f = terms-done (a .text .now) (a .domain) (boundIn (a .text .now) (a .scope)) (upTo (a .most) readTerm) (a .at) (memory (a .names .now) (a .work .now)) (a .to) _ (c .before .before .before .before .before .before .before .read-terms .result) (c .before .before .before .before .before .before .before .read-terms .ensures) _ _ _ (c .before .before .before .next .given .1) in
     omega (arith, f .within)
 
-enum-told : tie.Need-enum-told
-enum-told c = search needs
-
-same-length-2 : tie.Need-same-length-2
-same-length-2 c = search needs
-
 returns-2 : tie.Need-returns-2
 returns-2 c =
     let a = c .before .before .before .before .before .before .before .before .before .before .before .before .args in
     closed-found (a .text .now) (a .domain) (boundIn (a .text .now) (a .scope)) (a .most) (a .at) (memory (a .names .now) (a .work .now)) (a .to) _ _ _ _
     (terms-done (a .text .now) (a .domain) (boundIn (a .text .now) (a .scope)) (upTo (a .most) readTerm) (a .at) (memory (a .names .now) (a .work .now)) (a .to) _ (c .before .before .before .before .before .before .before .read-terms .result) (c .before .before .before .before .before .before .before .read-terms .ensures) (c .before .before .before .next .given .0 .0) (c .before .before .before .next .given .0 .1 .0) (c .before .before .before .next .given .0 .1 .1 .0) (c .before .before .before .next .given .1))
     (sym (c .before .peek .ensures) ∙ c .if1 .left)
-
-same-length-3 : tie.Need-same-length-3
-same-length-3 c = search needs
 
 returns-3 : tie.Need-returns-3
 returns-3 c =
@@ -62,14 +41,14 @@ pub closed-terms-spec : {M : Type 1} → statement M
 closed-terms-spec =
     tie.close
     (tie.spec
-    read-terms-requires
-    enum-known-next
-    peek-requires
-    same-length
+    (λ c κs. search needs)
+    (λ c. search needs)
+    (λ c κs. search needs)
+    (λ c. search needs)
     returns
     add-t19
-    enum-told
-    same-length-2
+    (λ c. search needs)
+    (λ c. search needs)
     returns-2
-    same-length-3
+    (λ c. search needs)
     returns-3)

@@ -1,8 +1,7 @@
 -- `term::is_element` tells an element by both ends of the domain.
 -- Assumes nothing.
 use native.Mathlib.Omega.{arith}
-use mathlib.Core.Path.{_≡_, refl}
-use borrow.Author.Tests.{le-leb, lt-leb}
+use borrow.Author.Tests.{le-leb}
 use Rattle.formula.proofs.term.is_element.Statement.{statement}
 use Rattle.formula.proofs.term.is_element.Tie as tie
 

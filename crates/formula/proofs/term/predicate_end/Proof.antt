@@ -1,26 +1,17 @@
 -- `term::predicate_end` sees a capital letter, then takes the run of letters and digits.
 -- Assumes nothing.
 use borrow.Author.Needs.{needs}
-use mathlib.Core.Path.{_≡_, sym, ap, _∙_}
+use mathlib.Core.Path.{sym, ap, _∙_}
 use borrow.Author.Tests.{not-true, not-false}
 use Rattle.text.specs.Bytes.{isCapital}
 use Rattle.formula.proofs.memory.TermReads.{name-refused, name-found}
 use Rattle.formula.proofs.term.predicate_end.Statement.{statement}
 use Rattle.formula.proofs.term.predicate_end.Tie as tie
 
-peek-requires : tie.Need-peek-requires
-peek-requires c κs = search needs
-
-is-capital-requires : tie.Need-is-capital-requires
-is-capital-requires c κs = search needs
-
 returns : tie.Need-returns
 returns c =
     let a = c .before .before .before .before .args in
     name-refused (a .text .now) (a .at) (ap isCapital (sym (c .before .before .peek .ensures)) ∙ sym (c .before .is-capital .ensures) ∙ not-true _ (c .if1 .taken))
-
-run-end-requires : tie.Need-run-end-requires
-run-end-requires c κs = search needs
 
 returns-2 : tie.Need-returns-2
 returns-2 c =
@@ -29,4 +20,4 @@ returns-2 c =
 
 pub predicate-end-spec : {M : Type 1} → statement M
 predicate-end-spec =
-    tie.close (tie.spec peek-requires is-capital-requires returns run-end-requires returns-2)
+    tie.close (tie.spec (λ c κs. search needs) (λ c κs. search needs) returns (λ c κs. search needs) returns-2)

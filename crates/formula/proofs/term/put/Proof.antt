@@ -1,25 +1,13 @@
 -- `term::put` stores a word where there is room; past the end a store changes nothing.
 -- Assumes nothing.
 use borrow.Author.Needs.{needs}
-use mathlib.Core.Path.{_≡_, sym}
+use mathlib.Core.Path.{sym}
 use lib.Seq.{set-out}
 use Rattle.formula.proofs.term.put.Statement.{statement}
 use Rattle.formula.proofs.term.put.Tie as tie
-
-mul-work : tie.Need-mul-work
-mul-work c = search needs
-
-slice-write-work : tie.Need-slice-write-work
-slice-write-work c = search needs
-
-same-length : tie.Need-same-length
-same-length c = search needs
-
-returns : tie.Need-returns
-returns c = search needs
 
 returns-2 : tie.Need-returns-2
 returns-2 c = sym (set-out (c .before .args .work .now) (c .before .args .at) (c .before .args .word) (c .if1 .left))
 
 pub put-spec : {M : Type 1} → statement M
-put-spec = tie.close (tie.spec mul-work slice-write-work same-length returns returns-2)
+put-spec = tie.close (tie.spec (λ c. search needs) (λ c. search needs) (λ c. search needs) (λ c. search needs) returns-2)

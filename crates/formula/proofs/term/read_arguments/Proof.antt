@@ -2,8 +2,7 @@
 -- Assumes nothing.
 use borrow.Author.Needs.{needs}
 use native.Mathlib.Omega.{arith}
-use Prim.Native.Nat.{_+_, _≤_}
-use mathlib.Core.Path.{_≡_, sym, _∙_}
+use mathlib.Core.Path.{sym, _∙_}
 use Rattle.formula.specs.memory.Bindings.{boundIn}
 use Rattle.formula.specs.memory.Entries.{memory}
 use Rattle.formula.proofs.memory.Lists.{byte-within}
@@ -11,24 +10,15 @@ use Rattle.formula.proofs.memory.TermReads.{arguments-none, arguments-s
 use Rattle.formula.proofs.term.read_arguments.Statement.{statement}
 use Rattle.formula.proofs.term.read_arguments.Tie as tie
 
-peek-requires : tie.Need-peek-requires
-peek-requires c κs = search needs
-
 returns : tie.Need-returns
 returns c =
     let a = c .before .before .before .before .args in
     arguments-none (a .text .now) (a .domain) (boundIn (a .text .now) (a .scope)) (a .at) (memory (a .names .now) (a .work .now)) (a .to) (c .before .before .before .before .pre .0) (λ e. c .if1 .taken (c .before .peek .ensures ∙ e))
 
-add-closed-terms : tie.Need-add-closed-terms
-add-closed-terms c = search needs
-
 closed-terms-requires : tie.Need-closed-terms-requires
 closed-terms-requires c κs =
     let h = byte-within (c .before .before .before .before .before .before .args .text .now) (c .before .before .before .before .before .before .args .at) 40 (sym (c .before .before .before .peek .ensures) ∙ c .before .before .if1 .left) (omega arith) in
     search needs
-
-same-length : tie.Need-same-length
-same-length c = search needs
 
 returns-2 : tie.Need-returns-2
 returns-2 c =
@@ -38,4 +28,4 @@ returns-2 c =
 pub read-arguments-spec : {M : Type 1} → statement M
 read-arguments-spec =
     tie.close
-    (tie.spec peek-requires returns add-closed-terms closed-terms-requires same-length returns-2)
+    (tie.spec (λ c κs. search needs) returns (λ c. search needs) closed-terms-requires (λ c. search needs) returns-2)

@@ -2,17 +2,11 @@
 -- Assumes nothing.
 use borrow.Author.Needs.{needs}
 use native.Mathlib.Omega.{arith}
-use mathlib.Core.Path.{_≡_, subst}
+use mathlib.Core.Path.{subst}
 use Rattle.text.specs.memory.Numbers.{ToldNumber}
 use Rattle.formula.proofs.memory.TermReads.{element-found, element-large, element-refused}
 use Rattle.formula.proofs.term.read_element.Statement.{statement}
 use Rattle.formula.proofs.term.read_element.Tie as tie
-
-number-at-requires : tie.Need-number-at-requires
-number-at-requires c κs = search needs
-
-enum-known-next : tie.Need-enum-known-next
-enum-known-next c = search needs
 
 mul-put : tie.Need-mul-put
 mul-put c =
@@ -23,21 +17,6 @@ add-put : tie.Need-add-put
 add-put c =
     let f = subst (ToldNumber (c .before .before .before .before .before .before .before .args .text .now) (c .before .before .before .before .before .before .before .args .at)) (c .before .before .next .given .1) (c .before .before .before .before .number-at .ensures) in
     omega (arith, f .small)
-
-put-requires : tie.Need-put-requires
-put-requires c κs = search needs
-
-is-element-requires : tie.Need-is-element-requires
-is-element-requires c κs = search needs
-
-enum-known-next-2 : tie.Need-enum-known-next-2
-enum-known-next-2 c = search needs
-
-enum-told : tie.Need-enum-told
-enum-told c = search needs
-
-same-length : tie.Need-same-length
-same-length c = search needs
 
 returns : tie.Need-returns
 returns c =
@@ -60,15 +39,15 @@ pub read-element-spec : {M : Type 1} → statement M
 read-element-spec =
     tie.close
     (tie.spec
-    number-at-requires
-    enum-known-next
+    (λ c κs. search needs)
+    (λ c. search needs)
     mul-put
     add-put
-    put-requires
-    is-element-requires
-    enum-known-next-2
-    enum-told
-    same-length
+    (λ c κs. search needs)
+    (λ c κs. search needs)
+    (λ c. search needs)
+    (λ c. search needs)
+    (λ c. search needs)
     returns
     returns-2
     returns-3)

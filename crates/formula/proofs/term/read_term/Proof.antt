@@ -1,7 +1,7 @@
 -- `term::read_term` tells an element by its first byte, a digit.
 -- Assumes nothing.
 use borrow.Author.Needs.{needs}
-use mathlib.Core.Path.{_≡_, sym, ap, _∙_}
+use mathlib.Core.Path.{sym, ap, _∙_}
 use Rattle.text.specs.Bytes.{isDigit}
 use Rattle.logic.specs.Reading.{readTerm}
 use Rattle.formula.specs.memory.Bindings.{boundIn}
@@ -11,18 +11,6 @@ use Rattle.formula.proofs.memory.TermReads.{told-term, term-digit, term
 use Rattle.formula.proofs.term.read_term.Statement.{statement}
 use Rattle.formula.proofs.term.read_term.Tie as tie
 
-peek-requires : tie.Need-peek-requires
-peek-requires c κs = search needs
-
-is-digit-requires : tie.Need-is-digit-requires
-is-digit-requires c κs = search needs
-
-read-element-requires : tie.Need-read-element-requires
-read-element-requires c κs = search needs
-
-same-length : tie.Need-same-length
-same-length c = search needs
-
 returns : tie.Need-returns
 returns c =
     let a = c .before .before .before .before .before .before .before .before .before .args in
@@ -30,12 +18,6 @@ returns c =
     told-term (a .text .now) (a .at) (a .domain) bound readElement readTerm (memory (a .names .now) (a .work .now)) (a .to) (c .before .before .read-element .result) _
     (term-digit (a .text .now) (a .at) (ap isDigit (sym (c .before .before .before .before .before .before .peek .ensures)) ∙ sym (c .before .before .before .before .before .is-digit .ensures) ∙ c .before .before .before .before .if1 .taken))
     (c .before .before .read-element .ensures bound (a .names .now))
-
-read-variable-requires : tie.Need-read-variable-requires
-read-variable-requires c κs = search needs
-
-same-length-2 : tie.Need-same-length-2
-same-length-2 c = search needs
 
 returns-2 : tie.Need-returns-2
 returns-2 c =
@@ -49,11 +31,11 @@ pub read-term-spec : {M : Type 1} → statement M
 read-term-spec =
     tie.close
     (tie.spec
-    peek-requires
-    is-digit-requires
-    read-element-requires
-    same-length
+    (λ c κs. search needs)
+    (λ c κs. search needs)
+    (λ c κs. search needs)
+    (λ c. search needs)
     returns
-    read-variable-requires
-    same-length-2
+    (λ c κs. search needs)
+    (λ c. search needs)
     returns-2)

@@ -2,7 +2,7 @@
 -- Assumes nothing.
 use borrow.Author.Needs.{needs}
 use native.Mathlib.Omega.{arith}
-use Prim.Native.Nat.{ℕ, _+_, _≤_}
+use Prim.Native.Nat.{_+_}
 use mathlib.Core.Path.{_≡_, refl, sym, _∙_}
 use lib.ListN.{length}
 use Rattle.logic.specs.Reading.{readTerm}
@@ -24,24 +24,6 @@ loop-holds c =
     let a = c .before .before .args in
     (terms-first (a .text .now) (a .domain) (boundIn (a .text .now) (a .scope)) (a .most) (a .at) (memory (a .names .now) (a .work .now)) (a .to) (c .before .before .pre .0), refl)
 
-add-read-term : tie.Need-add-read-term Inv-loop μ-loop
-add-read-term c = search needs
-
-read-term-requires : tie.Need-read-term-requires Inv-loop μ-loop
-read-term-requires c κs = search needs
-
-enum-known-next : tie.Need-enum-known-next Inv-loop μ-loop
-enum-known-next c = search needs
-
-add-count : tie.Need-add-count Inv-loop μ-loop
-add-count c = search needs
-
-both-requires : tie.Need-both-requires Inv-loop μ-loop
-both-requires c κs = search needs
-
-same-length : tie.Need-same-length Inv-loop μ-loop
-same-length c = search needs
-
 returns : tie.Need-returns Inv-loop μ-loop
 returns c =
     let a = c .before .before .before .before .before .before .before .before .before .before .before .before .before .args in
@@ -50,12 +32,6 @@ returns c =
     (terms-full (a .text .now) (a .domain) (boundIn (a .text .now) (a .scope)) (a .most) (a .at) (memory (a .names .now) (a .work .now)) (a .to) (l .i) (l .more) (l .count) (l .all) (memory (l .names) (l .work)) (l .inv .0) (c .before .before .before .next .given .0 .0) (c .before .before .before .next .given .0 .1 .0) _
     (term-done (a .text .now) (a .domain) (boundIn (a .text .now) (a .scope)) readTerm (l .i) (memory (l .names) (l .work)) (a .to + l .count) _ (c .before .before .before .before .before .before .before .read-term .result) (c .before .before .before .before .before .before .before .read-term .ensures) _ _ (c .before .before .before .next .given .1))
     (c .if1 .taken))
-
-peek-requires : tie.Need-peek-requires Inv-loop μ-loop
-peek-requires c κs = search needs
-
-same-length-2 : tie.Need-same-length-2 Inv-loop μ-loop
-same-length-2 c = search needs
 
 returns-2 : tie.Need-returns-2 Inv-loop μ-loop
 returns-2 c =
@@ -66,18 +42,12 @@ returns-2 c =
     (term-done (a .text .now) (a .domain) (boundIn (a .text .now) (a .scope)) readTerm (l .i) (memory (l .names) (l .work)) (a .to + l .count) _ (c .before .before .before .before .before .before .before .before .before .read-term .result) (c .before .before .before .before .before .before .before .before .before .read-term .ensures) _ _ (c .before .before .before .before .before .next .given .1))
     (λ e. c .if2 .taken (c .before .peek .ensures ∙ e)))
 
-sub-more : tie.Need-sub-more Inv-loop μ-loop
-sub-more c = search needs
-
 add-i : tie.Need-add-i Inv-loop μ-loop
 add-i c =
     let a = c .before .before .before .before .before .before .before .before .before .before .before .before .before .before .before .args in
     let l = c .before .before .before .before .before .before .before .before .before .before .before .before .loop in
     let f = term-done (a .text .now) (a .domain) (boundIn (a .text .now) (a .scope)) readTerm (l .i) (memory (l .names) (l .work)) (a .to + l .count) _ (c .before .before .before .before .before .before .before .before .before .read-term .result) (c .before .before .before .before .before .before .before .before .before .read-term .ensures) _ _ (c .before .before .before .before .before .next .given .1) in
     omega (arith, f .within)
-
-loop-less : tie.Need-loop-less Inv-loop μ-loop
-loop-less c = search needs
 
 loop-again : tie.Need-loop-again Inv-loop μ-loop
 loop-again c =
@@ -89,12 +59,6 @@ loop-again c =
           (c .before .before .if1 .left) (sym (c .before .peek .ensures) ∙ c .if2 .left)),
       search needs,
     )
-
-enum-told : tie.Need-enum-told Inv-loop μ-loop
-enum-told c = search needs
-
-same-length-3 : tie.Need-same-length-3 Inv-loop μ-loop
-same-length-3 c = search needs
 
 returns-3 : tie.Need-returns-3 Inv-loop μ-loop
 returns-3 c =
@@ -110,20 +74,20 @@ read-terms-spec =
     Inv-loop
     μ-loop
     loop-holds
-    add-read-term
-    read-term-requires
-    enum-known-next
-    add-count
-    both-requires
-    same-length
+    (λ c. search needs)
+    (λ c κs. search needs)
+    (λ c. search needs)
+    (λ c. search needs)
+    (λ c κs. search needs)
+    (λ c. search needs)
     returns
-    peek-requires
-    same-length-2
+    (λ c κs. search needs)
+    (λ c. search needs)
     returns-2
-    sub-more
+    (λ c. search needs)
     add-i
-    loop-less
+    (λ c. search needs)
     loop-again
-    enum-told
-    same-length-3
+    (λ c. search needs)
+    (λ c. search needs)
     returns-3)

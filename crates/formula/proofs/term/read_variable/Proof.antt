@@ -2,20 +2,13 @@
 -- Assumes nothing.
 use borrow.Author.Needs.{needs}
 use native.Mathlib.Omega.{arith}
-use Prim.Native.Nat.{_≤_}
-use mathlib.Core.Path.{_≡_, subst}
+use mathlib.Core.Path.{subst}
 use Rattle.logic.specs.Reading.{readVariable}
 use Rattle.formula.specs.memory.Bindings.{boundIn}
 use Rattle.formula.specs.memory.TermReads.{ToldWord}
 use Rattle.formula.proofs.memory.TermReads.{variable-entered, variable-refused}
 use Rattle.formula.proofs.term.read_variable.Statement.{statement}
 use Rattle.formula.proofs.term.read_variable.Tie as tie
-
-variable-end-requires : tie.Need-variable-end-requires
-variable-end-requires c κs = search needs
-
-enum-known-next : tie.Need-enum-known-next
-enum-known-next c = search needs
 
 sub-size : tie.Need-sub-size
 sub-size c =
@@ -33,18 +26,6 @@ mul-put c = omega (arith, c .before .list-name .ensures .small)
 add-put : tie.Need-add-put
 add-put c = omega (arith, c .before .list-name .ensures .small)
 
-put-requires : tie.Need-put-requires
-put-requires c κs = search needs
-
-is-bound-requires : tie.Need-is-bound-requires
-is-bound-requires c κs = search needs
-
-enum-told : tie.Need-enum-told
-enum-told c = search needs
-
-same-length : tie.Need-same-length
-same-length c = search needs
-
 returns : tie.Need-returns
 returns c =
     let a = c .before .before .before .before .before .before .before .before .before .before .before .before .before .args in
@@ -61,15 +42,15 @@ pub read-variable-spec : {M : Type 1} → statement M
 read-variable-spec =
     tie.close
     (tie.spec
-    variable-end-requires
-    enum-known-next
+    (λ c κs. search needs)
+    (λ c. search needs)
     sub-size
     list-name-requires
     mul-put
     add-put
-    put-requires
-    is-bound-requires
-    enum-told
-    same-length
+    (λ c κs. search needs)
+    (λ c κs. search needs)
+    (λ c. search needs)
+    (λ c. search needs)
     returns
     returns-2)

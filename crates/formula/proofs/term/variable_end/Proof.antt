@@ -1,36 +1,17 @@
 -- `term::variable_end` sees a small letter, takes the run of small letters and digits, and refuses `true` and `false`.
 -- Assumes nothing.
 use borrow.Author.Needs.{needs}
-use mathlib.Core.Path.{_≡_, sym, ap, _∙_}
-use mathlib.Core.Bool.{_||_}
+use mathlib.Core.Path.{sym, ap, _∙_}
 use borrow.Author.Tests.{not-true, not-false}
-use Rattle.text.specs.Bytes.{Bytes, bytes, same, isSmall}
+use Rattle.text.specs.Bytes.{isSmall}
 use Rattle.formula.proofs.memory.TermReads.{variable-none, variable-truth, variable-found}
 use Rattle.formula.proofs.term.variable_end.Statement.{statement}
 use Rattle.formula.proofs.term.variable_end.Tie as tie
-
-peek-requires : tie.Need-peek-requires
-peek-requires c κs = search needs
-
-is-small-requires : tie.Need-is-small-requires
-is-small-requires c κs = search needs
 
 returns : tie.Need-returns
 returns c =
     let a = c .before .before .before .before .args in
     variable-none (a .text .now) (a .at) (ap isSmall (sym (c .before .before .peek .ensures)) ∙ sym (c .before .is-small .ensures) ∙ not-true _ (c .if1 .taken))
-
-run-end-requires : tie.Need-run-end-requires
-run-end-requires c κs = search needs
-
-sub-part : tie.Need-sub-part
-sub-part c = search needs
-
-part-requires : tie.Need-part-requires
-part-requires c κs = search needs
-
-is-truth-requires : tie.Need-is-truth-requires
-is-truth-requires c κs = search needs
 
 returns-2 : tie.Need-returns-2
 returns-2 c =
@@ -48,12 +29,12 @@ pub variable-end-spec : {M : Type 1} → statement M
 variable-end-spec =
     tie.close
     (tie.spec
-    peek-requires
-    is-small-requires
+    (λ c κs. search needs)
+    (λ c κs. search needs)
     returns
-    run-end-requires
-    sub-part
-    part-requires
-    is-truth-requires
+    (λ c κs. search needs)
+    (λ c. search needs)
+    (λ c κs. search needs)
+    (λ c κs. search needs)
     returns-2
     returns-3)

@@ -11,36 +11,15 @@ use borrow.Author.Needs.{needs}
 use Rattle.formula.proofs.theory_line.read_line.Statement.{statement}
 use Rattle.formula.proofs.theory_line.read_line.Tie as tie
 
-no-scope-requires : tie.Need-no-scope-requires
-no-scope-requires c κs = search needs
-
-read-formula-requires : tie.Need-read-formula-requires
-read-formula-requires c κs = search needs
-
-enum-known-next : tie.Need-enum-known-next
-enum-known-next c = search needs
-
-peek-requires : tie.Need-peek-requires
-peek-requires c κs = search needs
-
-same-length : tie.Need-same-length
-same-length c = search needs
-
 returns : tie.Need-returns
 returns c =
     let a = c .before .before .before .before .before .before .before .before .before .before .before .before .before .before .args in
     λ rows. line-open (a .problem .now) (a .table) rows (a .text .now) (a .at) (c .before .before .before .before .before .before .before .before .before .before .no-scope .result) (c .before .before .before .before .before .before .before .before .before .before .no-scope .ensures) (memory (a .names .now) (a .work .now)) (a .to) (c .before .before .before .next .given .0 .0) (c .before .before .before .next .given .0 .1 .0) (c .before .before .before .next .given .0 .1 .1 .0) _ (formula-done (readFormula 32) (settingOf (a .text .now) (c .before .before .before .before .before .before .before .before .before .before .no-scope .result) (a .problem .now) (a .table)) (a .at) (memory (a .names .now) (a .work .now)) (a .to) _ (c .before .before .before .before .before .before .before .read-formula .result) (c .before .before .before .before .before .before .before .read-formula .ensures) (c .before .before .before .next .given .0 .0) (c .before .before .before .next .given .0 .1 .0) (c .before .before .before .next .given .0 .1 .1 .0) (c .before .before .before .next .given .1)) (λ e. c .if1 .taken (c .before .peek .ensures ∙ e))
 
-same-length-2 : tie.Need-same-length-2
-same-length-2 c = search needs
-
 returns-2 : tie.Need-returns-2
 returns-2 c =
     let a = c .before .before .before .before .before .before .before .before .before .before .before .before .before .before .before .before .args in
     λ rows. line-unnamed (a .problem .now) (a .table) rows (a .text .now) (a .at) (c .before .before .before .before .before .before .before .before .before .before .before .before .no-scope .result) (c .before .before .before .before .before .before .before .before .before .before .before .before .no-scope .ensures) (memory (a .names .now) (a .work .now)) (a .to) (c .before .before .before .before .before .next .given .0 .0) (c .before .before .before .before .before .next .given .0 .1 .0) (c .before .before .before .before .before .next .given .0 .1 .1 .0) _ (formula-done (readFormula 32) (settingOf (a .text .now) (c .before .before .before .before .before .before .before .before .before .before .before .before .no-scope .result) (a .problem .now) (a .table)) (a .at) (memory (a .names .now) (a .work .now)) (a .to) _ (c .before .before .before .before .before .before .before .before .before .read-formula .result) (c .before .before .before .before .before .before .before .before .before .read-formula .ensures) (c .before .before .before .before .before .next .given .0 .0) (c .before .before .before .before .before .next .given .0 .1 .0) (c .before .before .before .before .before .next .given .0 .1 .1 .0) (c .before .before .before .before .before .next .given .1)) (sym (c .before .before .before .peek .ensures) ∙ c .before .before .if1 .left) (not-true _ (c .if2 .taken))
-
-same-length-3 : tie.Need-same-length-3
-same-length-3 c = search needs
 
 returns-3 : tie.Need-returns-3
 returns-3 c =
@@ -53,30 +32,15 @@ add-t19 c =
     let f = formula-done (readFormula 32) (settingOf (a .text .now) (c .before .before .before .before .before .before .before .before .before .before .before .before .before .before .no-scope .result) (a .problem .now) (a .table)) (a .at) (memory (a .names .now) (a .work .now)) (a .to) _ (c .before .before .before .before .before .before .before .before .before .before .before .read-formula .result) (c .before .before .before .before .before .before .before .before .before .before .before .read-formula .ensures) (c .before .before .before .before .before .before .before .next .given .0 .0) (c .before .before .before .before .before .before .before .next .given .0 .1 .0) (c .before .before .before .before .before .before .before .next .given .0 .1 .1 .0) (c .before .before .before .before .before .before .before .next .given .1) in
     omega (arith, f .within, c .before .before .before .before .before .before .before .before .before .before .before .before .before .before .before .before .before .before .pre .1)
 
-enum-told : tie.Need-enum-told
-enum-told c = search needs
-
-enum-told-2 : tie.Need-enum-told-2
-enum-told-2 c = search needs
-
-same-length-4 : tie.Need-same-length-4
-same-length-4 c = search needs
-
 returns-4 : tie.Need-returns-4
 returns-4 c =
     let a = c .before .before .before .before .before .before .before .before .before .before .before .before .before .before .before .before .before .before .args in
     λ rows. line-found (a .problem .now) (a .table) rows (a .text .now) (a .at) (c .before .before .before .before .before .before .before .before .before .before .before .before .before .before .no-scope .result) (c .before .before .before .before .before .before .before .before .before .before .before .before .before .before .no-scope .ensures) (memory (a .names .now) (a .work .now)) (a .to) (c .before .before .before .before .before .before .before .next .given .0 .0) (c .before .before .before .before .before .before .before .next .given .0 .1 .0) (c .before .before .before .before .before .before .before .next .given .0 .1 .1 .0) _ (formula-done (readFormula 32) (settingOf (a .text .now) (c .before .before .before .before .before .before .before .before .before .before .before .before .before .before .no-scope .result) (a .problem .now) (a .table)) (a .at) (memory (a .names .now) (a .work .now)) (a .to) _ (c .before .before .before .before .before .before .before .before .before .before .before .read-formula .result) (c .before .before .before .before .before .before .before .before .before .before .before .read-formula .ensures) (c .before .before .before .before .before .before .before .next .given .0 .0) (c .before .before .before .before .before .before .before .next .given .0 .1 .0) (c .before .before .before .before .before .before .before .next .given .0 .1 .1 .0) (c .before .before .before .before .before .before .before .next .given .1)) (sym (c .before .before .before .before .before .peek .ensures) ∙ c .before .before .before .before .if1 .left) (not-false _ (c .before .before .if2 .left)) (not-false _ (c .if3 .left))
 
-same-length-5 : tie.Need-same-length-5
-same-length-5 c = search needs
-
 returns-5 : tie.Need-returns-5
 returns-5 c =
     let a = c .before .before .before .before .before .before .before .before .before .before .before .args in
     λ rows. line-refused (a .problem .now) (a .table) rows (a .text .now) (a .at) 5 (formula-malformed (readFormula 32) (settingOf (a .text .now) (c .before .before .before .before .before .before .before .no-scope .result) (a .problem .now) (a .table)) (a .at) (memory (a .names .now) (a .work .now)) (a .to) _ (c .before .before .before .before .read-formula .result) (c .before .before .before .before .read-formula .ensures) (c .enum-told .given .1))
-
-same-length-6 : tie.Need-same-length-6
-same-length-6 c = search needs
 
 returns-6 : tie.Need-returns-6
 returns-6 c =
@@ -87,22 +51,22 @@ pub read-line-spec : {M : Type 1} → statement M
 read-line-spec =
     tie.close
     (tie.spec
-    no-scope-requires
-    read-formula-requires
-    enum-known-next
-    peek-requires
-    same-length
+    (λ c κs. search needs)
+    (λ c κs. search needs)
+    (λ c. search needs)
+    (λ c κs. search needs)
+    (λ c. search needs)
     returns
-    same-length-2
+    (λ c. search needs)
     returns-2
-    same-length-3
+    (λ c. search needs)
     returns-3
     add-t19
-    enum-told
-    enum-told-2
-    same-length-4
+    (λ c. search needs)
+    (λ c. search needs)
+    (λ c. search needs)
     returns-4
-    same-length-5
+    (λ c. search needs)
     returns-5
-    same-length-6
+    (λ c. search needs)
     returns-6)

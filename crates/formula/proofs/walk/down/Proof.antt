@@ -11,21 +11,6 @@ use Rattle.formula.proofs.memory.Paths.{below-inside, below-at, below-n
 use Rattle.formula.proofs.walk.down.Statement.{statement}
 use Rattle.formula.proofs.walk.down.Tie as tie
 
-peek-requires : tie.Need-peek-requires
-peek-requires c κs = search needs
-
-kind-of-requires : tie.Need-kind-of-requires
-kind-of-requires c κs = search needs
-
-subformula-count-requires : tie.Need-subformula-count-requires
-subformula-count-requires c κs = search needs
-
-add-past : tie.Need-add-past
-add-past c = search needs
-
-wide-requires : tie.Need-wide-requires
-wide-requires c κs = search needs
-
 past-requires : tie.Need-past-requires
 past-requires c κs =
     let a = c .before .before .before .before .before .before .args in
@@ -52,11 +37,11 @@ pub down-spec : {M : Type 1} → statement M
 down-spec =
     tie.close
     (tie.spec
-    peek-requires
-    kind-of-requires
-    subformula-count-requires
-    add-past
-    wide-requires
+    (λ c κs. search needs)
+    (λ c κs. search needs)
+    (λ c κs. search needs)
+    (λ c. search needs)
+    (λ c κs. search needs)
     past-requires
     returns
     returns-2)

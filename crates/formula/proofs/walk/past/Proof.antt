@@ -27,33 +27,6 @@ returns c =
     let z = skip-beyond (a .work .now) (l .i) (l .pending) (c .if1 .taken) in
     (omega (arith, l .inv .2), l .inv .1)
 
-sub-pending : tie.Need-sub-pending Inv-loop μ-loop
-sub-pending c = search needs
-
-mul-kind-of : tie.Need-mul-kind-of Inv-loop μ-loop
-mul-kind-of c = search needs
-
-shared-slice-read-kind-of : tie.Need-shared-slice-read-kind-of Inv-loop μ-loop
-shared-slice-read-kind-of c = search needs
-
-kind-of-requires : tie.Need-kind-of-requires Inv-loop μ-loop
-kind-of-requires c κs = search needs
-
-part-count-requires : tie.Need-part-count-requires Inv-loop μ-loop
-part-count-requires c κs = search needs
-
-wide-requires : tie.Need-wide-requires Inv-loop μ-loop
-wide-requires c κs = search needs
-
-add-pending : tie.Need-add-pending Inv-loop μ-loop
-add-pending c = search needs
-
-add-i : tie.Need-add-i Inv-loop μ-loop
-add-i c = search needs
-
-loop-less : tie.Need-loop-less Inv-loop μ-loop
-loop-less c = search needs
-
 loop-again : tie.Need-loop-again Inv-loop μ-loop
 loop-again c =
     let a = c .before .before .before .before .before .before .before .before .args in
@@ -78,14 +51,14 @@ past-spec =
     μ-loop
     loop-holds
     returns
-    sub-pending
-    mul-kind-of
-    shared-slice-read-kind-of
-    kind-of-requires
-    part-count-requires
-    wide-requires
-    add-pending
-    add-i
-    loop-less
+    (λ c. search needs)
+    (λ c. search needs)
+    (λ c. search needs)
+    (λ c κs. search needs)
+    (λ c κs. search needs)
+    (λ c κs. search needs)
+    (λ c. search needs)
+    (λ c. search needs)
+    (λ c. search needs)
     loop-again
     returns-2)

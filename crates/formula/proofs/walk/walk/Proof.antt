@@ -2,7 +2,7 @@
 -- Assumes nothing.
 use borrow.Author.Needs.{needs}
 use native.Mathlib.Omega.{arith}
-use Prim.Native.Nat.{_+_, _-_, _≤_}
+use Prim.Native.Nat.{_+_, _≤_}
 use mathlib.Core.Path.{_≡_, refl, sym, ap, subst, _∙_}
 use lib.ListN.{length}
 use Rattle.text.specs.memory.Numbers.{numbersAt}
@@ -22,18 +22,6 @@ abbrev μ-loop : tie.MeasureT-loop
 loop-holds : tie.Need-loop-holds Inv-loop μ-loop
 loop-holds c = (omega arith, omega arith, omega arith, refl)
 
-digits-at-requires : tie.Need-digits-at-requires Inv-loop μ-loop
-digits-at-requires c κs = search needs
-
-down-requires : tie.Need-down-requires Inv-loop μ-loop
-down-requires c κs = search needs
-
-enum-known-below : tie.Need-enum-known-below Inv-loop μ-loop
-enum-known-below c = search needs
-
-enum-told : tie.Need-enum-told Inv-loop μ-loop
-enum-told c = search needs
-
 returns : tie.Need-returns Inv-loop μ-loop
 returns c =
     let a = c .before .before .before .before .before .before .before .before .args in
@@ -43,15 +31,6 @@ returns c =
           (c .before .before .down .ensures .0 ∙ ap (placeBelow (a .work .now) (l .place)) (d .value)) (c .enum-told .given .1)),
       tt,
     )
-
-add-number : tie.Need-add-number Inv-loop μ-loop
-add-number c = search needs
-
-sub-pending : tie.Need-sub-pending Inv-loop μ-loop
-sub-pending c = search needs
-
-loop-less : tie.Need-loop-less Inv-loop μ-loop
-loop-less c = search needs
 
 loop-again : tie.Need-loop-again Inv-loop μ-loop
 loop-again c =
@@ -78,13 +57,13 @@ walk-spec =
     Inv-loop
     μ-loop
     loop-holds
-    digits-at-requires
-    down-requires
-    enum-known-below
-    enum-told
+    (λ c κs. search needs)
+    (λ c κs. search needs)
+    (λ c. search needs)
+    (λ c. search needs)
     returns
-    add-number
-    sub-pending
-    loop-less
+    (λ c. search needs)
+    (λ c. search needs)
+    (λ c. search needs)
     loop-again
     returns-2)

@@ -10,9 +10,6 @@ use Rattle.replay.proofs.Footers.{end-other, end-ended, end-clauses, en
 use Rattle.replay.proofs.ending.end_number.Statement.{statement}
 use Rattle.replay.proofs.ending.end_number.Tie as tie
 
-are-listed-requires : tie.Need-are-listed-requires
-are-listed-requires c κs = search needs
-
 returns : tie.Need-returns
 returns c =
     let a = c .before .before .before .before .args in
@@ -25,9 +22,6 @@ returns-2 c =
 
 slice-aggregate-are-clauses-at : tie.Need-slice-aggregate-are-clauses-at
 slice-aggregate-are-clauses-at c = sym (length-take-le (c .before .before .before .before .before .before .args .live .full) (c .before .before .before .before .before .before .args .work .now) (omega (arith, c .before .before .before .before .before .before .pre)))
-
-cast-are-clauses-at : tie.Need-cast-are-clauses-at
-cast-are-clauses-at c = search needs
 
 are-clauses-at-requires : tie.Need-are-clauses-at-requires
 are-clauses-at-requires c κs =
@@ -50,11 +44,11 @@ pub end-number-spec : {M : Type 1} → statement M
 end-number-spec =
     tie.close
     (tie.spec
-    are-listed-requires
+    (λ c κs. search needs)
     returns
     returns-2
     slice-aggregate-are-clauses-at
-    cast-are-clauses-at
+    (λ c. search needs)
     are-clauses-at-requires
     returns-3
     returns-4)

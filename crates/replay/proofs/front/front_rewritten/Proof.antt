@@ -2,8 +2,6 @@
 -- Assumes nothing.
 use borrow.Author.Needs.{needs}
 use native.Mathlib.Omega.{arith}
-use Prim.Native.Nat.{_≤_}
-use mathlib.Core.Path.{_≡_, sym}
 use Rattle.replay.proofs.Regions.{fronted}
 use Rattle.replay.proofs.front.front_rewritten.Statement.{statement}
 use Rattle.replay.proofs.front.front_rewritten.Tie as tie
@@ -11,18 +9,9 @@ use Rattle.replay.proofs.front.front_rewritten.Tie as tie
 rewrite-requires : tie.Need-rewrite-requires
 rewrite-requires c κs = (record { here = c .before .before .pre .0 .here; apart = c .before .before .pre .0 .apart; within = omega (arith, c .before .before .pre .0 .room); long = c .before .before .pre .0 .long }, c .before .before .pre .1)
 
-same-length : tie.Need-same-length
-same-length c = search needs
-
 returns : tie.Need-returns
 returns c =
     record { sized = c .before .before .before .rewrite .ensures .sized; stands = λ s. absurd (omega (arith, c .if1 .taken, s)) }
-
-copy-back-requires : tie.Need-copy-back-requires
-copy-back-requires c κs = search needs
-
-same-length-2 : tie.Need-same-length-2
-same-length-2 c = search needs
 
 returns-2 : tie.Need-returns-2
 returns-2 c =
@@ -31,4 +20,4 @@ returns-2 c =
 pub front-rewritten-spec : {M : Type 1} → statement M
 front-rewritten-spec =
     tie.close
-    (tie.spec rewrite-requires same-length returns copy-back-requires same-length-2 returns-2)
+    (tie.spec rewrite-requires (λ c. search needs) returns (λ c κs. search needs) (λ c. search needs) returns-2)

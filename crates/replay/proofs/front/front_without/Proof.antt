@@ -2,8 +2,8 @@
 -- Assumes nothing.
 use borrow.Author.Needs.{needs}
 use native.Mathlib.Omega.{arith}
-use Prim.Native.Nat.{_+_, _≤_}
-use mathlib.Core.Path.{_≡_, sym}
+use Prim.Native.Nat.{_+_}
+use mathlib.Core.Path.{_≡_}
 use mathlib.Core.List.{[]}
 use lib.ListN.{length}
 use Rattle.replay.proofs.Regions.{fronted, length-spliced, roomy-placed}
@@ -20,9 +20,6 @@ copy-back-requires c κs =
     let same : length (c .before .before .before .without-word .last .0) ≡ length (a .words .now) = search needs in
     omega (arith, c .before .before .before .before .before .before .pre, c .before .before .before .without-word .ensures .sized, l, same)
 
-same-length : tie.Need-same-length
-same-length c = search needs
-
 returns : tie.Need-returns
 returns c =
     let a = c .before .before .before .before .before .before .before .before .before .args in
@@ -32,4 +29,4 @@ returns c =
 
 pub front-without-spec : {M : Type 1} → statement M
 front-without-spec =
-    tie.close (tie.spec without-word-requires copy-back-requires same-length returns)
+    tie.close (tie.spec without-word-requires copy-back-requires (λ c. search needs) returns)

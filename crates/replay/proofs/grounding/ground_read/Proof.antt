@@ -2,7 +2,6 @@
 -- Assumes nothing.
 use borrow.Author.Needs.{needs}
 use native.Mathlib.Omega.{arith}
-use Prim.Native.Nat.{_+_, _≤_}
 use mathlib.Core.Path.{_≡_, refl, sym, subst, _∙_}
 use mathlib.Core.List.{_++_}
 use lib.ListN.{length, take, drop}
@@ -16,9 +15,6 @@ use Rattle.replay.proofs.GroundReads.{told-theory, theory-refused, theo
 use Rattle.replay.proofs.grounding.ground_read.Statement.{statement}
 use Rattle.replay.proofs.grounding.ground_read.Tie as tie
 
-slice-relend-prefix-read-theory : tie.Need-slice-relend-prefix-read-theory
-slice-relend-prefix-read-theory c = search needs
-
 slice-aggregate-read-theory : tie.Need-slice-aggregate-read-theory
 slice-aggregate-read-theory c = sym (length-take-le (c .before .before .before .before .before .before .args .layout .rows) (c .before .before .before .before .before .before .args .work .now) (omega (arith, c .before .before .before .before .before .before .pre .0)))
 
@@ -26,9 +22,6 @@ read-theory-requires : tie.Need-read-theory-requires
 read-theory-requires c κs =
     let l = length-take-le (c .before .before .before .before .before .before .args .layout .rows) (c .before .before .before .before .before .before .args .work .now) (omega (arith, c .before .before .before .before .before .before .pre .0)) in
     (c .before .before .before .before .before .before .pre .1, c .before .before .before .before .before .before .pre .3, c .before .before .before .before .before .before .pre .4, refl, omega (arith, l, c .before .before .before .before .before .before .pre .0))
-
-enum-known-count : tie.Need-enum-known-count
-enum-known-count c = search needs
 
 named-requires : tie.Need-named-requires
 named-requires c κs =
@@ -44,15 +37,6 @@ replay-end-requires c κs =
     let k : length (c .before .before .before .named .last .0) ≡ length (c .before .before .before .before .before .before .before .before .before .before .read-theory .last .1 .1 .1 .1 .0 ++ drop (a .layout .rows) (a .work .now)) = search needs in
     (subst (Arranged (a .layout)) (sym k) (mid-arranged (a .layout) (a .work .now) (c .before .before .before .before .before .before .before .before .before .before .read-theory .last .1 .1 .1 .1 .0) (c .before .before .before .before .before .before .before .before .before .before .before .before .before .before .before .before .before .pre .0) same), c .before .before .before .named .ensures .few, c .before .before .before .before .before .before .before .before .before .before .before .before .before .before .before .before .before .pre .3, c .before .before .before .before .before .before .before .before .before .before .before .before .before .before .before .before .before .pre .2)
 
-enum-known-number : tie.Need-enum-known-number
-enum-known-number c = search needs
-
-refused-by-requires : tie.Need-refused-by-requires
-refused-by-requires c κs = search needs
-
-same-length : tie.Need-same-length
-same-length c = search needs
-
 returns : tie.Need-returns
 returns c =
     let a = c .before .before .before .before .before .before .before .before .before .before .before .before .before .before .before .before .before .before .before .before .args in
@@ -67,9 +51,6 @@ returns c =
     (subst (λ o. EndEither o (a .layout) (a .table) (c .before .before .replay-end .result) (c .before .before .replay-end .last .1 .0))
     (ended-first (a .layout) (a .work .now) (c .before .before .before .before .before .before .before .before .before .before .before .before .before .read-theory .last .1 .1 .1 .1 .0) (c .before .before .before .before .before .before .before .before .before .before .before .before .before .before .before .before .before .before .before .before .pre .0) same (a .table) _ _ (found-full t) (c .before .before .before .before .before .before .named .result) (c .before .before .before .before .before .before .named .last .0) (c .before .before .before .before .before .before .named .ensures) (a .derivation .now)) (c .before .before .replay-end .ensures))
 
-same-length-2 : tie.Need-same-length-2
-same-length-2 c = search needs
-
 returns-2 : tie.Need-returns-2
 returns-2 c =
     let a = c .before .before .before .before .before .before .before .before .before .before .before .before .before .args in
@@ -81,15 +62,15 @@ pub ground-read-spec : {M : Type 1} → statement M
 ground-read-spec =
     tie.close
     (tie.spec
-    slice-relend-prefix-read-theory
+    (λ c. search needs)
     slice-aggregate-read-theory
     read-theory-requires
-    enum-known-count
+    (λ c. search needs)
     named-requires
     replay-end-requires
-    enum-known-number
-    refused-by-requires
-    same-length
+    (λ c. search needs)
+    (λ c κs. search needs)
+    (λ c. search needs)
     returns
-    same-length-2
+    (λ c. search needs)
     returns-2)

@@ -2,25 +2,15 @@
 -- Assumes nothing.
 use borrow.Author.Needs.{needs}
 use native.Mathlib.Omega.{arith}
-use Prim.Native.Nat.{_-_, _≤_}
-use mathlib.Core.Path.{_≡_, sym, ap}
-use lib.ListN.{length, drop, length-drop}
+use mathlib.Core.Path.{ap}
+use lib.ListN.{length, length-drop}
 use Rattle.replay.proofs.Regions.{part-end}
 use Rattle.replay.proofs.GroundReads.{first-named}
 use Rattle.replay.proofs.grounding.named.Statement.{statement}
 use Rattle.replay.proofs.grounding.named.Tie as tie
 
-mul-put-first : tie.Need-mul-put-first
-mul-put-first c = search needs
-
-sub-put-first : tie.Need-sub-put-first
-sub-put-first c = search needs
-
 part-put-first-start : tie.Need-part-put-first-start
 part-put-first-start c = omega (arith, c .before .pre .0)
-
-part-put-first-end : tie.Need-part-put-first-end
-part-put-first-end c = search needs
 
 put-first-requires : tie.Need-put-first-requires
 put-first-requires c κs =
@@ -32,9 +22,6 @@ put-first-requires c κs =
 cast-t12 : tie.Need-cast-t12
 cast-t12 c = omega (arith, c .before .before .before .before .before .pre .1)
 
-same-length : tie.Need-same-length
-same-length c = search needs
-
 returns : tie.Need-returns
 returns c = rw (c .before .before .put-first .ensures) (first-named (c .before .before .before .before .before .args .layout) (c .before .before .before .before .before .args .count) (c .before .before .before .before .before .args .full) (c .before .before .before .before .before .args .work .now) (c .before .before .before .before .before .pre .0) (c .before .before .before .before .before .pre .1) (c .before .before .before .before .before .pre .2))
 
@@ -42,11 +29,11 @@ pub named-spec : {M : Type 1} → statement M
 named-spec =
     tie.close
     (tie.spec
-    mul-put-first
-    sub-put-first
+    (λ c. search needs)
+    (λ c. search needs)
     part-put-first-start
-    part-put-first-end
+    (λ c. search needs)
     put-first-requires
     cast-t12
-    same-length
+    (λ c. search needs)
     returns)

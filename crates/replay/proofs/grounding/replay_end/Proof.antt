@@ -2,22 +2,13 @@
 -- Assumes nothing.
 use borrow.Author.Needs.{needs}
 use native.Mathlib.Omega.{arith}
-use Prim.Native.Nat.{_+_, _≤_}
-use mathlib.Core.Path.{_≡_, refl, sym, _∙_}
-use Rattle.replay.specs.Replay.{derivationFrom}
-use Rattle.replay.specs.memory.Held.{steppedIn}
+use mathlib.Core.Path.{refl, _∙_}
 use Rattle.replay.specs.memory.Steps.{rowsIn, heldIn}
 use Rattle.replay.specs.memory.Grounds.{ends, stops}
 use Rattle.replay.proofs.Turns.{told-replayed}
 use Rattle.replay.proofs.GroundReads.{ended-refused, ended-zero, ended-number, refuses-as}
 use Rattle.replay.proofs.grounding.replay_end.Statement.{statement}
 use Rattle.replay.proofs.grounding.replay_end.Tie as tie
-
-replay-text-requires : tie.Need-replay-text-requires
-replay-text-requires c κs = search needs
-
-enum-known-last : tie.Need-enum-known-last
-enum-known-last c = search needs
 
 end-number-requires : tie.Need-end-number-requires
 end-number-requires c κs =
@@ -31,12 +22,6 @@ add-refused-by c =
     let t = told-replayed _ (a .layout) (rowsIn (a .layout) (a .work .now)) (a .text .now) _ _ (c .before .before .before .before .last .given .1) (c .before .before .before .before .before .before .before .before .replay-text .last .1 .0) (c .before .before .before .before .before .before .before .before .replay-text .ensures) in
     omega (arith, t .counted, c .before .before .before .before .before .before .before .before .before .before .before .before .pre .3)
 
-refused-by-requires : tie.Need-refused-by-requires
-refused-by-requires c κs = search needs
-
-same-length : tie.Need-same-length
-same-length c = search needs
-
 returns : tie.Need-returns
 returns c =
     let a = c .before .before .before .before .before .before .before .before .before .before .before .before .before .args in
@@ -44,24 +29,12 @@ returns c =
     let t = told-replayed _ (a .layout) (rowsIn (a .layout) (a .work .now)) (a .text .now) _ _ (c .before .before .before .before .before .last .given .1) (c .before .before .before .before .before .before .before .before .before .replay-text .last .1 .0) (c .before .before .before .before .before .before .before .before .before .replay-text .ensures) in
     stops (ended-number (a .table) (rowsIn (a .layout) (a .work .now)) m (a .text .now) _ (t .is) _ (c .before .before .end-number .ensures) (c .before .if1 .taken) ∙ refuses-as (c .refused-by .ensures))
 
-enum-known-number : tie.Need-enum-known-number
-enum-known-number c = search needs
-
-refused-by-requires-2 : tie.Need-refused-by-requires-2
-refused-by-requires-2 c κs = search needs
-
-same-length-2 : tie.Need-same-length-2
-same-length-2 c = search needs
-
 returns-2 : tie.Need-returns-2
 returns-2 c =
     let a = c .before .before .before .before .before .before .before .before .before .before .before .before .args in
     let m = heldIn (a .layout) (a .live) (a .work .now) in
     let t = told-replayed _ (a .layout) (rowsIn (a .layout) (a .work .now)) (a .text .now) _ _ (c .before .before .before .before .last .given .1) (c .before .before .before .before .before .before .before .before .replay-text .last .1 .0) (c .before .before .before .before .before .before .before .before .replay-text .ensures) in
     ends refl refl _ (ended-zero (a .table) (rowsIn (a .layout) (a .work .now)) m (a .text .now) _ (t .is) _ (c .before .end-number .ensures) (c .if1 .left)) (t .few)
-
-same-length-3 : tie.Need-same-length-3
-same-length-3 c = search needs
 
 returns-3 : tie.Need-returns-3
 returns-3 c =
@@ -74,16 +47,16 @@ pub replay-end-spec : {M : Type 1} → statement M
 replay-end-spec =
     tie.close
     (tie.spec
-    replay-text-requires
-    enum-known-last
+    (λ c κs. search needs)
+    (λ c. search needs)
     end-number-requires
     add-refused-by
-    refused-by-requires
-    same-length
+    (λ c κs. search needs)
+    (λ c. search needs)
     returns
-    enum-known-number
-    refused-by-requires-2
-    same-length-2
+    (λ c. search needs)
+    (λ c κs. search needs)
+    (λ c. search needs)
     returns-2
-    same-length-3
+    (λ c. search needs)
     returns-3)

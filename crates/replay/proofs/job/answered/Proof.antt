@@ -9,31 +9,16 @@ use Rattle.replay.proofs.Concluding.{answer-little, answer-enough}
 use Rattle.replay.proofs.job.answered.Statement.{statement}
 use Rattle.replay.proofs.job.answered.Tie as tie
 
-refused-requires : tie.Need-refused-requires
-refused-requires c κs = search needs
-
 returns : tie.Need-returns
 returns c =
     let a = c .before .before .before .before .before .before .before .before .args in
     answer-little (a .compare) (a .problem .now) (a .theory .now) (a .derivation .now) (a .claim .now) (a .output .now) (a .work .now) _ (omega (arith, c .before .if1 .taken, c .before .before .before .before .before .before .before .before .pre)) (c .refused .ensures)
-
-slice-relend-prefix-judged-short : tie.Need-slice-relend-prefix-judged-short
-slice-relend-prefix-judged-short c = search needs
 
 slice-aggregate-judged-short : tie.Need-slice-aggregate-judged-short
 slice-aggregate-judged-short c = sym (length-take-le (c .before .before .before .before .before .before .before .before .before .args .size) (c .before .before .before .before .before .before .before .before .before .args .work .now) (omega (arith, c .before .before .if1 .left)))
 
 judged-short-requires : tie.Need-judged-short-requires
 judged-short-requires c κs = length-take-le (c .before .before .before .before .before .before .before .before .before .args .size) (c .before .before .before .before .before .before .before .before .before .args .work .now) (omega (arith, c .before .before .if1 .left)) ∙ c .before .before .before .before .before .before .before .before .before .pre
-
-clear-requires : tie.Need-clear-requires
-clear-requires c κs = search needs
-
-same-length : tie.Need-same-length
-same-length c = search needs
-
-same-length-2 : tie.Need-same-length-2
-same-length-2 c = search needs
 
 returns-2 : tie.Need-returns-2
 returns-2 c =
@@ -47,12 +32,12 @@ pub answered-spec : {M : Type 1} → statement M
 answered-spec =
     tie.close
     (tie.spec
-    refused-requires
+    (λ c κs. search needs)
     returns
-    slice-relend-prefix-judged-short
+    (λ c. search needs)
     slice-aggregate-judged-short
     judged-short-requires
-    clear-requires
-    same-length
-    same-length-2
+    (λ c κs. search needs)
+    (λ c. search needs)
+    (λ c. search needs)
     returns-2)

@@ -6,26 +6,14 @@ use borrow.Author.Tests.{not-true, not-false}
 use Rattle.replay.proofs.job.are_short.Statement.{statement}
 use Rattle.replay.proofs.job.are_short.Tie as tie
 
-is-short-requires : tie.Need-is-short-requires
-is-short-requires c κs = search needs
-
 returns : tie.Need-returns
 returns c = rw (sym (c .before .is-short .ensures) ∙ not-true _ (c .if1 .taken))
-
-is-short-requires-2 : tie.Need-is-short-requires-2
-is-short-requires-2 c κs = search needs
 
 returns-2 : tie.Need-returns-2
 returns-2 c = rw (sym (c .before .before .before .is-short .ensures) ∙ not-false _ (c .before .before .if1 .left), sym (c .before .is-short2 .ensures) ∙ not-true _ (c .if2 .taken))
 
-is-short-requires-3 : tie.Need-is-short-requires-3
-is-short-requires-3 c κs = search needs
-
 returns-3 : tie.Need-returns-3
 returns-3 c = rw (sym (c .before .before .before .before .before .is-short .ensures) ∙ not-false _ (c .before .before .before .before .if1 .left), sym (c .before .before .before .is-short2 .ensures) ∙ not-false _ (c .before .before .if2 .left), sym (c .before .is-short3 .ensures) ∙ not-true _ (c .if3 .taken))
-
-is-short-requires-4 : tie.Need-is-short-requires-4
-is-short-requires-4 c κs = search needs
 
 returns-4 : tie.Need-returns-4
 returns-4 c = rw (sym (c .before .before .before .before .before .before .is-short .ensures) ∙ not-false _ (c .before .before .before .before .before .if1 .left), sym (c .before .before .before .before .is-short2 .ensures) ∙ not-false _ (c .before .before .before .if2 .left), sym (c .before .before .is-short3 .ensures) ∙ not-false _ (c .before .if3 .left)) (c .is-short4 .ensures)
@@ -34,11 +22,11 @@ pub are-short-spec : {M : Type 1} → statement M
 are-short-spec =
     tie.close
     (tie.spec
-    is-short-requires
+    (λ c κs. search needs)
     returns
-    is-short-requires-2
+    (λ c κs. search needs)
     returns-2
-    is-short-requires-3
+    (λ c κs. search needs)
     returns-3
-    is-short-requires-4
+    (λ c κs. search needs)
     returns-4)

@@ -7,38 +7,11 @@ use Rattle.replay.proofs.Concluding.{conclude-long, conclude-other, con
 use Rattle.replay.proofs.job.concluded.Statement.{statement}
 use Rattle.replay.proofs.job.concluded.Tie as tie
 
-printed-requires : tie.Need-printed-requires
-printed-requires c κs = search needs
-
-refused-requires : tie.Need-refused-requires
-refused-requires c κs = search needs
-
-same-length : tie.Need-same-length
-same-length c = search needs
-
 returns : tie.Need-returns
 returns c = conclude-long (c .before .before .before .before .before .printed .ensures) (c .before .if1 .taken) (c .refused .ensures)
 
-agrees-requires : tie.Need-agrees-requires
-agrees-requires c κs = search needs
-
-refused-requires-2 : tie.Need-refused-requires-2
-refused-requires-2 c κs = search needs
-
-same-length-2 : tie.Need-same-length-2
-same-length-2 c = search needs
-
 returns-2 : tie.Need-returns-2
 returns-2 c = conclude-other (c .before .before .before .before .before .before .before .printed .ensures) (c .before .before .agrees .ensures) (omega (arith, c .before .before .before .if1 .left)) (not-true _ (c .before .if2 .taken)) (c .refused2 .ensures)
-
-printed-requires-2 : tie.Need-printed-requires-2
-printed-requires-2 c κs = search needs
-
-accepted-requires : tie.Need-accepted-requires
-accepted-requires c κs = search needs
-
-same-length-3 : tie.Need-same-length-3
-same-length-3 c = search needs
 
 returns-3 : tie.Need-returns-3
 returns-3 c = conclude-all (c .before .before .before .before .before .before .before .before .before .before .before .printed .ensures) (c .before .before .before .before .before .before .agrees .ensures) (omega (arith, c .before .before .before .before .before .before .before .if1 .left)) (not-false _ (c .before .before .before .before .before .if2 .left)) (c .before .before .before .printed2 .ensures) (c .accepted .ensures)
@@ -47,15 +20,15 @@ pub concluded-spec : {M : Type 1} → statement M
 concluded-spec =
     tie.close
     (tie.spec
-    printed-requires
-    refused-requires
-    same-length
+    (λ c κs. search needs)
+    (λ c κs. search needs)
+    (λ c. search needs)
     returns
-    agrees-requires
-    refused-requires-2
-    same-length-2
+    (λ c κs. search needs)
+    (λ c κs. search needs)
+    (λ c. search needs)
     returns-2
-    printed-requires-2
-    accepted-requires
-    same-length-3
+    (λ c κs. search needs)
+    (λ c κs. search needs)
+    (λ c. search needs)
     returns-3)

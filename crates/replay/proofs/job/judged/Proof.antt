@@ -9,17 +9,8 @@ use Rattle.replay.proofs.Concluding.{judged-refused, judged-concluded}
 use Rattle.replay.proofs.job.judged.Statement.{statement}
 use Rattle.replay.proofs.job.judged.Tie as tie
 
-layout-requires : tie.Need-layout-requires
-layout-requires c κs = search needs
-
 ground-theory-requires : tie.Need-ground-theory-requires
 ground-theory-requires c κs = (c .layout .ensures _ (c .before .before .before .before .before .before .before .before .pre .0), c .before .before .before .before .before .before .before .before .pre .1, c .before .before .before .before .before .before .before .before .pre .2, c .before .before .before .before .before .before .before .before .pre .3)
-
-refused-requires : tie.Need-refused-requires
-refused-requires c κs = search needs
-
-same-length : tie.Need-same-length
-same-length c = search needs
 
 returns : tie.Need-returns
 returns c =
@@ -48,12 +39,6 @@ concluded-requires c κs =
     let l = length-take-le (c .before .before .before .before .before .before .before .before .before .ground-theory .result .live .full) (c .before .before .before .before .before .before .before .before .before .ground-theory .last .1 .1 .1 .0) (omega (arith, c .before .before .before .before .before .before .before .before .before .before .before .before .before .before .before .before .before .before .pre .0, same, f)) in
     omega (arith, f, l)
 
-same-length-2 : tie.Need-same-length-2
-same-length-2 c = search needs
-
-same-length-3 : tie.Need-same-length-3
-same-length-3 c = search needs
-
 returns-2 : tie.Need-returns-2
 returns-2 c =
     let a = c .before .before .before .before .before .before .before .before .before .before .before .before .before .before .before .before .before .before .before .before .before .args in
@@ -63,15 +48,15 @@ pub judged-spec : {M : Type 1} → statement M
 judged-spec =
     tie.close
     (tie.spec
-    layout-requires
+    (λ c κs. search needs)
     ground-theory-requires
-    refused-requires
-    same-length
+    (λ c κs. search needs)
+    (λ c. search needs)
     returns
     slice-reshare-prefix-concluded
     slice-aggregate-concluded
     cast-concluded
     concluded-requires
-    same-length-2
-    same-length-3
+    (λ c. search needs)
+    (λ c. search needs)
     returns-2)

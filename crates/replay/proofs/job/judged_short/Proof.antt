@@ -7,12 +7,6 @@ use Rattle.replay.proofs.Concluding.{shorts-each, short-refused, short-
 use Rattle.replay.proofs.job.judged_short.Statement.{statement}
 use Rattle.replay.proofs.job.judged_short.Tie as tie
 
-are-short-requires : tie.Need-are-short-requires
-are-short-requires c κs = search needs
-
-refused-requires : tie.Need-refused-requires
-refused-requires c κs = search needs
-
 returns : tie.Need-returns
 returns c =
     let a = c .before .before .before .before .before .before .before .before .before .args in
@@ -24,12 +18,6 @@ judged-requires c κs =
     let s = shorts-each (a .problem .now) (a .theory .now) (a .derivation .now) (a .claim .now) (sym (c .before .before .before .are-short .ensures) ∙ not-false _ (c .before .before .if1 .left)) in
     (c .before .before .before .before .before .before .before .before .before .before .pre, s .0, s .1, s .2)
 
-same-length : tie.Need-same-length
-same-length c = search needs
-
-same-length-2 : tie.Need-same-length-2
-same-length-2 c = search needs
-
 returns-2 : tie.Need-returns-2
 returns-2 c =
     let a = c .before .before .before .before .before .before .before .before .before .before .before .before .before .before .before .args in
@@ -39,10 +27,10 @@ pub judged-short-spec : {M : Type 1} → statement M
 judged-short-spec =
     tie.close
     (tie.spec
-    are-short-requires
-    refused-requires
+    (λ c κs. search needs)
+    (λ c κs. search needs)
     returns
     judged-requires
-    same-length
-    same-length-2
+    (λ c. search needs)
+    (λ c. search needs)
     returns-2)

@@ -4,10 +4,10 @@ use borrow.Author.Needs.{needs}
 use native.Mathlib.Omega.{arith}
 use borrow.Author.Tests.{eq-eqb, ne-eqb}
 use Prim.Native.Nat.{_+_, _-_, _≤_}
-use mathlib.Core.Path.{_≡_, refl, sym, ap, _∙_}
-use lib.ListN.{length, drop, getD}
+use mathlib.Core.Path.{_≡_, sym, _∙_}
+use lib.ListN.{drop, getD}
 use Rattle.text.specs.Bytes.{same}
-use Rattle.text.specs.memory.Numbers.{numberAt, numberEnd, numbersAt}
+use Rattle.text.specs.memory.Numbers.{numbersAt}
 use Rattle.replay.proofs.NameLists.{region, region-more, region-end, region-length, numbers-more, numbers-none, numbers-length, same-lengths}
 use Rattle.replay.proofs.names.are_listed.Statement.{statement}
 use Rattle.replay.proofs.names.are_listed.Tie as tie
@@ -28,18 +28,6 @@ returns c =
 loop-holds : tie.Need-loop-holds Inv-loop μ-loop
 loop-holds c = let e : c .before .before .before .args .count - 0 ≡ c .before .before .before .args .many = omega (arith, c .if1 .left) in (omega arith, omega (arith, c .before .before .before .pre .1, c .if1 .left), rw e)
 
-digits-at-requires : tie.Need-digits-at-requires Inv-loop μ-loop
-digits-at-requires c κs = search needs
-
-add-if2 : tie.Need-add-if2 Inv-loop μ-loop
-add-if2 c = search needs
-
-mul-if2 : tie.Need-mul-if2 Inv-loop μ-loop
-mul-if2 c = search needs
-
-shared-slice-read-if2 : tie.Need-shared-slice-read-if2 Inv-loop μ-loop
-shared-slice-read-if2 c = search needs
-
 returns-2 : tie.Need-returns-2 Inv-loop μ-loop
 returns-2 c =
     let a = c .before .before .before .before .before .before .before .before .before .args in
@@ -48,12 +36,6 @@ returns-2 c =
 
 add-place : tie.Need-add-place Inv-loop μ-loop
 add-place c = omega (arith, c .before .before .before .before .digits-at .ensures .within)
-
-add-i : tie.Need-add-i Inv-loop μ-loop
-add-i c = search needs
-
-loop-less : tie.Need-loop-less Inv-loop μ-loop
-loop-less c = search needs
 
 loop-again : tie.Need-loop-again Inv-loop μ-loop
 loop-again c =
@@ -75,13 +57,13 @@ are-listed-spec =
     μ-loop
     returns
     loop-holds
-    digits-at-requires
-    add-if2
-    mul-if2
-    shared-slice-read-if2
+    (λ c κs. search needs)
+    (λ c. search needs)
+    (λ c. search needs)
+    (λ c. search needs)
     returns-2
     add-place
-    add-i
-    loop-less
+    (λ c. search needs)
+    (λ c. search needs)
     loop-again
     returns-3)

@@ -3,10 +3,9 @@
 use borrow.Author.Needs.{needs}
 use native.Mathlib.Omega.{arith}
 use borrow.Author.Tests.{lt-ltb, le-ltb}
-use Prim.Native.Nat.{_+_, _-_, _≤_}
-use mathlib.Core.Path.{_≡_, refl, sym, ap, _∙_}
-use lib.ListN.{length, drop, getD}
-use Rattle.text.specs.memory.Numbers.{numberAt, numberEnd, numbersAt}
+use Prim.Native.Nat.{_+_, _≤_}
+use mathlib.Core.Path.{_≡_, refl, _∙_}
+use Rattle.text.specs.memory.Numbers.{numbersAt}
 use Rattle.replay.specs.Theory.{climbing, highest}
 use Rattle.replay.proofs.NameLists.{numbers-more, numbers-none}
 use Rattle.replay.proofs.names.climbs.Statement.{statement}
@@ -21,9 +20,6 @@ abbrev μ-loop : tie.MeasureT-loop
 loop-holds : tie.Need-loop-holds Inv-loop μ-loop
 loop-holds c = (omega arith, omega arith, refl, refl)
 
-digits-at-requires : tie.Need-digits-at-requires Inv-loop μ-loop
-digits-at-requires c κs = search needs
-
 returns : tie.Need-returns Inv-loop μ-loop
 returns c =
     let s = c .before .before .before .before .before .args .text .now in
@@ -31,12 +27,6 @@ returns c =
 
 add-place : tie.Need-add-place Inv-loop μ-loop
 add-place c = omega (arith, c .before .before .digits-at .ensures .within)
-
-sub-left : tie.Need-sub-left Inv-loop μ-loop
-sub-left c = search needs
-
-loop-less : tie.Need-loop-less Inv-loop μ-loop
-loop-less c = search needs
 
 loop-again : tie.Need-loop-again Inv-loop μ-loop
 loop-again c =
@@ -58,10 +48,10 @@ climbs-spec =
     Inv-loop
     μ-loop
     loop-holds
-    digits-at-requires
+    (λ c κs. search needs)
     returns
     add-place
-    sub-left
-    loop-less
+    (λ c. search needs)
+    (λ c. search needs)
     loop-again
     returns-2)

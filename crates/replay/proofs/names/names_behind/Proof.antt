@@ -2,11 +2,8 @@
 -- Assumes nothing.
 use borrow.Author.Needs.{needs}
 use native.Mathlib.Omega.{arith}
-use Prim.Native.Nat.{_+_}
-use mathlib.Core.Path.{_≡_, refl}
-use lib.Seq.{slice, length-slice}
+use mathlib.Core.Path.{refl}
 use Rattle.text.specs.memory.Numbers.{numbersAt}
-use Rattle.formula.specs.memory.Storing.{Placed}
 use Rattle.formula.proofs.memory.Storing.{ahead-turn, ahead-length, theory-starts, theory-ends, place-near}
 use Rattle.replay.proofs.NameLists.{numbers-length}
 use Rattle.replay.proofs.Regions.{roomy-placed}
@@ -18,9 +15,6 @@ copy-requires c κs = omega (arith, c .before .before .before .pre .0)
 
 put-numbers-requires : tie.Need-put-numbers-requires
 put-numbers-requires c κs = (c .before .before .before .before .before .before .before .pre .1, c .before .before .before .before .before .before .before .pre .2, omega (arith, place-near (roomy-placed (c .before .before .before .before .before .before .before .pre .0)) (c .before .before .before .copy .ensures), c .before .before .before .before .before .before .before .pre .0))
-
-add-copy : tie.Need-add-copy
-add-copy c = search needs
 
 copy-requires-2 : tie.Need-copy-requires-2
 copy-requires-2 c κs =
@@ -34,9 +28,6 @@ sub-result c =
     let p = roomy-placed (c .before .before .before .before .before .before .before .before .before .before .before .before .before .before .pre .0) in
     omega (arith, c .before .before .copy2 .ensures .ends, place-near p (c .before .before .before .before .before .before .before .before .before .before .copy .ensures), c .before .before .before .before .before .before .put-numbers .ensures .ends)
 
-same-length : tie.Need-same-length
-same-length c = search needs
-
 returns : tie.Need-returns
 returns c =
     let p = roomy-placed (c .before .before .before .before .before .before .before .before .before .before .before .before .before .before .pre .0) in
@@ -49,8 +40,8 @@ names-behind-spec =
     (tie.spec
     copy-requires
     put-numbers-requires
-    add-copy
+    (λ c. search needs)
     copy-requires-2
     sub-result
-    same-length
+    (λ c. search needs)
     returns)

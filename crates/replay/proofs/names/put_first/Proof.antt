@@ -20,23 +20,8 @@ abbrev μ-loop : tie.MeasureT-loop
 loop-holds : tie.Need-loop-holds Inv-loop μ-loop
 loop-holds c = (omega arith, refl, refl)
 
-cast-list : tie.Need-cast-list Inv-loop μ-loop
-cast-list c = search needs
-
-add-list : tie.Need-add-list Inv-loop μ-loop
-add-list c = search needs
-
-mul-list : tie.Need-mul-list Inv-loop μ-loop
-mul-list c = search needs
-
 slice-write-list : tie.Need-slice-write-list Inv-loop μ-loop
 slice-write-list c = omega (arith, c .before .loop .inv .1)
-
-add-i : tie.Need-add-i Inv-loop μ-loop
-add-i c = search needs
-
-loop-less : tie.Need-loop-less Inv-loop μ-loop
-loop-less c = search needs
 
 loop-again : tie.Need-loop-again Inv-loop μ-loop
 loop-again c = (omega arith, length-set (c .before .loop .list) (c .before .loop .i) _ ∙ c .before .loop .inv .1, ap (λ (l : List ℕ). set l (c .before .loop .i) (c .before .loop .i + 1)) (c .before .loop .inv .2) ∙ first-more (c .before .before .args .list .now) (c .before .loop .i) (omega (arith, c .before .before .pre .0)))
@@ -56,12 +41,12 @@ put-first-spec =
     Inv-loop
     μ-loop
     loop-holds
-    cast-list
-    add-list
-    mul-list
+    (λ c. search needs)
+    (λ c. search needs)
+    (λ c. search needs)
     slice-write-list
-    add-i
-    loop-less
+    (λ c. search needs)
+    (λ c. search needs)
     loop-again
     same-length
     returns)

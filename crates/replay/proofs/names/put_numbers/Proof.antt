@@ -3,8 +3,8 @@
 use Rattle.replay.proofs.names.put_numbers.Statement.{statement}
 use borrow.Author.Needs.{needs}
 use native.Mathlib.Omega.{arith}
-use Prim.Native.Nat.{_+_, _-_, _≤_}
-use mathlib.Core.Path.{_≡_, refl, sym, ap, _∙_}
+use Prim.Native.Nat.{_+_, _≤_}
+use mathlib.Core.Path.{_∙_}
 use Rattle.text.specs.memory.Numbers.{numbersAt}
 use Rattle.formula.proofs.memory.Storing.{Ahead, ahead-start, ahead-turn, ahead-end, ahead-length}
 use Rattle.replay.proofs.NameLists.{numbers-more, numbers-none, numbers-length}
@@ -19,9 +19,6 @@ abbrev μ-loop : tie.MeasureT-loop
 loop-holds : tie.Need-loop-holds Inv-loop μ-loop
 loop-holds c = (omega arith, omega arith, ahead-start _ _ _)
 
-digits-at-requires : tie.Need-digits-at-requires Inv-loop μ-loop
-digits-at-requires c κs = search needs
-
 put-requires : tie.Need-put-requires Inv-loop μ-loop
 put-requires c κs =
     let a = c .before .before .before .before .before .before .args in
@@ -29,12 +26,6 @@ put-requires c κs =
 
 add-place : tie.Need-add-place Inv-loop μ-loop
 add-place c = omega (arith, c .before .before .before .before .before .digits-at .ensures .within)
-
-sub-left : tie.Need-sub-left Inv-loop μ-loop
-sub-left c = search needs
-
-loop-less : tie.Need-loop-less Inv-loop μ-loop
-loop-less c = search needs
 
 loop-again : tie.Need-loop-again Inv-loop μ-loop
 loop-again c =
@@ -55,11 +46,11 @@ put-numbers-spec =
     Inv-loop
     μ-loop
     loop-holds
-    digits-at-requires
+    (λ c κs. search needs)
     put-requires
     add-place
-    sub-left
-    loop-less
+    (λ c. search needs)
+    (λ c. search needs)
     loop-again
     same-length
     returns)

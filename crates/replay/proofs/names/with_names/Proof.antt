@@ -2,7 +2,7 @@
 -- Assumes nothing.
 use borrow.Author.Needs.{needs}
 use native.Mathlib.Omega.{arith}
-use Prim.Native.Nat.{_+_, _≤_}
+use Prim.Native.Nat.{_+_}
 use mathlib.Core.Path.{_≡_}
 use lib.ListN.{length}
 use Rattle.text.specs.memory.Numbers.{numbersAt}
@@ -11,9 +11,6 @@ use Rattle.replay.proofs.Regions.{fronted, length-spliced}
 use Rattle.replay.proofs.names.with_names.Statement.{statement}
 use Rattle.replay.proofs.names.with_names.Tie as tie
 
-names-behind-requires : tie.Need-names-behind-requires
-names-behind-requires c κs = search needs
-
 copy-back-requires : tie.Need-copy-back-requires
 copy-back-requires c κs =
     let a = c .before .before .before .before .before .before .before .args in
@@ -21,9 +18,6 @@ copy-back-requires c κs =
     let n = numbers-length (a .text .now) (a .at) (a .many) in
     let same : length (c .before .before .before .names-behind .last .0) ≡ length (a .list .now) = search needs in
     omega (arith, c .before .before .before .before .before .before .before .pre .0, c .before .before .before .before .before .before .before .pre .3, c .before .before .before .names-behind .ensures .sized, l, n, same)
-
-same-length : tie.Need-same-length
-same-length c = search needs
 
 returns : tie.Need-returns
 returns c =
@@ -34,4 +28,4 @@ returns c =
     (fronted _ _ _ _ _ _ (c .before .before .before .before .before .before .names-behind .ensures .holds) s (omega (arith, c .before .before .before .before .before .before .before .before .before .before .pre .0, c .before .before .before .before .before .before .before .before .before .before .pre .3, s, l, n)) (c .before .before .before .before .before .before .before .before .before .before .pre .0 .room) (c .before .before .copy-back .ensures .holds), omega (arith, c .before .before .before .before .before .before .before .before .before .before .pre .0, c .before .before .before .before .before .before .before .before .before .before .pre .3, s, l, n))
 
 pub with-names-spec : {M : Type 1} → statement M
-with-names-spec = tie.close (tie.spec names-behind-requires copy-back-requires same-length returns)
+with-names-spec = tie.close (tie.spec (λ c κs. search needs) copy-back-requires (λ c. search needs) returns)

@@ -2,13 +2,12 @@
 -- Assumes nothing.
 use borrow.Author.Needs.{needs}
 use native.Mathlib.Omega.{arith}
-use Prim.Native.Nat.{_-_, _≤_}
-use mathlib.Core.Path.{_≡_, sym, ap, _∙_}
-use lib.ListN.{length, take, drop}
+use Prim.Native.Nat.{_-_}
+use mathlib.Core.Path.{sym, ap, _∙_}
+use lib.ListN.{take, drop}
 use lib.Seq.{length-take-le}
 use Rattle.formula.specs.memory.Deciding.{ruleFit}
 use Rattle.replay.specs.memory.Held.{misfit}
-use Rattle.replay.specs.memory.Steps.{rowsIn}
 use Rattle.replay.proofs.Regions.{slice-part}
 use Rattle.replay.proofs.Decisions.{quantifier-here, flagged-rows}
 use Rattle.replay.proofs.rewriting.decision_at.Statement.{statement}
@@ -16,18 +15,6 @@ use Rattle.replay.proofs.rewriting.decision_at.Tie as tie
 
 slice-aggregate-rule-fit : tie.Need-slice-aggregate-rule-fit
 slice-aggregate-rule-fit c = sym (length-take-le (c .before .before .args .live .full) (c .before .before .args .work .now) (omega (arith, c .before .before .pre .0, c .before .before .pre .1)))
-
-mul-rule-fit : tie.Need-mul-rule-fit
-mul-rule-fit c = search needs
-
-sub-rule-fit : tie.Need-sub-rule-fit
-sub-rule-fit c = search needs
-
-part-rule-fit-start : tie.Need-part-rule-fit-start
-part-rule-fit-start c = search needs
-
-part-rule-fit-end : tie.Need-part-rule-fit-end
-part-rule-fit-end c = search needs
 
 rule-fit-requires : tie.Need-rule-fit-requires
 rule-fit-requires c κs =
@@ -44,18 +31,6 @@ misfit-of-requires c κs =
 
 slice-aggregate-flags-for : tie.Need-slice-aggregate-flags-for
 slice-aggregate-flags-for c = sym (length-take-le (c .before .before .before .before .before .before .before .args .live .full) (c .before .before .before .before .before .before .before .args .work .now) (omega (arith, c .before .before .before .before .before .before .before .pre .0, c .before .before .before .before .before .before .before .pre .1)))
-
-mul-flags-for : tie.Need-mul-flags-for
-mul-flags-for c = search needs
-
-sub-flags-for : tie.Need-sub-flags-for
-sub-flags-for c = search needs
-
-part-flags-for-start : tie.Need-part-flags-for-start
-part-flags-for-start c = search needs
-
-part-flags-for-end : tie.Need-part-flags-for-end
-part-flags-for-end c = search needs
 
 flags-for-requires : tie.Need-flags-for-requires
 flags-for-requires c κs =
@@ -79,17 +54,17 @@ decision-at-spec =
     tie.close
     (tie.spec
     slice-aggregate-rule-fit
-    mul-rule-fit
-    sub-rule-fit
-    part-rule-fit-start
-    part-rule-fit-end
+    (λ c. search needs)
+    (λ c. search needs)
+    (λ c. search needs)
+    (λ c. search needs)
     rule-fit-requires
     slice-aggregate-misfit-of
     misfit-of-requires
     slice-aggregate-flags-for
-    mul-flags-for
-    sub-flags-for
-    part-flags-for-start
-    part-flags-for-end
+    (λ c. search needs)
+    (λ c. search needs)
+    (λ c. search needs)
+    (λ c. search needs)
     flags-for-requires
     returns)

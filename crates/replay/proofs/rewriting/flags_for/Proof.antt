@@ -1,27 +1,13 @@
 -- `rewriting::flags_for`: the guard's elements for a quantifier; nothing is asked of the flags for other decisions.
 -- Assumes nothing.
 use borrow.Author.Needs.{needs}
-use native.Mathlib.Omega.{arith}
-use mathlib.Core.Path.{_≡_, subst, sym}
 use lib.ListN.{drop}
 use Rattle.replay.proofs.Decisions.{flagged-as}
 use Rattle.replay.proofs.rewriting.flags_for.Statement.{statement}
 use Rattle.replay.proofs.rewriting.flags_for.Tie as tie
 
-enum-told : tie.Need-enum-told
-enum-told c = search needs
-
-enum-told-2 : tie.Need-enum-told-2
-enum-told-2 c = search needs
-
-enum-told-3 : tie.Need-enum-told-3
-enum-told-3 c = search needs
-
 admitted-requires : tie.Need-admitted-requires
 admitted-requires c κs = (c .before .before .before .before .pre .0 (c .enum-told3 .given .1), c .before .before .before .before .pre .1, c .before .before .before .before .pre .2)
-
-enum-told-4 : tie.Need-enum-told-4
-enum-told-4 c = search needs
 
 returns : tie.Need-returns
 returns c = flagged-as (c .before .before .before .before .args .table) (c .before .before .before .before .args .rows .now) (drop (c .before .before .before .before .args .at) (c .before .before .before .before .args .words .now)) _ _ _ (c .enum-told .given .1) tt
@@ -39,11 +25,11 @@ pub flags-for-spec : {M : Type 1} → statement M
 flags-for-spec =
     tie.close
     (tie.spec
-    enum-told
-    enum-told-2
-    enum-told-3
+    (λ c. search needs)
+    (λ c. search needs)
+    (λ c. search needs)
     admitted-requires
-    enum-told-4
+    (λ c. search needs)
     returns
     returns-2
     returns-3

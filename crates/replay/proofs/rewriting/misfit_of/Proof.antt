@@ -1,27 +1,14 @@
 -- `rewriting::misfit_of`: by the decision, and for a quantifier by its guard.
 -- Assumes nothing.
 use borrow.Author.Needs.{needs}
-use mathlib.Core.Path.{_≡_, sym}
 use Rattle.replay.proofs.rewriting.misfit_of.Statement.{statement}
 use Rattle.replay.proofs.rewriting.misfit_of.Tie as tie
-
-enum-told : tie.Need-enum-told
-enum-told c = search needs
-
-enum-told-2 : tie.Need-enum-told-2
-enum-told-2 c = search needs
-
-enum-told-3 : tie.Need-enum-told-3
-enum-told-3 c = search needs
 
 guard-closed-requires : tie.Need-guard-closed-requires
 guard-closed-requires c κs = (c .before .before .before .pre .1 (c .enum-told3 .given .1), c .before .before .before .pre .0)
 
 returns : tie.Need-returns
 returns c = rw (c .before .before .enum-told3 .given .1, ← c .before .guard-closed .ensures, c .if1 .taken)
-
-enum-told-4 : tie.Need-enum-told-4
-enum-told-4 c = search needs
 
 returns-2 : tie.Need-returns-2
 returns-2 c = rw (c .enum-told .given .1)
@@ -39,12 +26,12 @@ pub misfit-of-spec : {M : Type 1} → statement M
 misfit-of-spec =
     tie.close
     (tie.spec
-    enum-told
-    enum-told-2
-    enum-told-3
+    (λ c. search needs)
+    (λ c. search needs)
+    (λ c. search needs)
     guard-closed-requires
     returns
-    enum-told-4
+    (λ c. search needs)
     returns-2
     returns-3
     returns-4

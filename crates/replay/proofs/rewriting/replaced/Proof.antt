@@ -2,17 +2,12 @@
 -- Assumes nothing.
 use borrow.Author.Needs.{needs}
 use native.Mathlib.Omega.{arith}
-use Prim.Native.Nat.{_≤_}
-use mathlib.Core.Path.{_≡_, sym, ap, _∙_}
+use mathlib.Core.Path.{_≡_, sym}
 use lib.ListN.{length, take}
 use lib.Seq.{length-take-le}
-use Rattle.replay.specs.memory.Steps.{heldIn, Fronted}
 use Rattle.replay.proofs.Moves.{rewritten-over, rewritten-moved}
 use Rattle.replay.proofs.rewriting.replaced.Statement.{statement}
 use Rattle.replay.proofs.rewriting.replaced.Tie as tie
-
-slice-relend-prefix-front-rewritten : tie.Need-slice-relend-prefix-front-rewritten
-slice-relend-prefix-front-rewritten c = search needs
 
 slice-aggregate-front-rewritten : tie.Need-slice-aggregate-front-rewritten
 slice-aggregate-front-rewritten c = sym (length-take-le (c .before .before .args .layout .rows) (c .before .before .args .work .now) (omega (arith, c .before .before .pre .0)))
@@ -22,16 +17,10 @@ front-rewritten-requires c κs =
     let l = length-take-le (c .before .before .args .layout .rows) (c .before .before .args .work .now) (omega (arith, c .before .before .pre .0)) in
     (record { here = c .before .before .pre .2; apart = omega (arith, c .before .before .pre .0, c .before .before .pre .1); room = omega (arith, c .before .before .pre .0, l); long = omega (arith, c .before .before .pre .0, l) }, c .before .before .pre .3)
 
-same-length : tie.Need-same-length
-same-length c = search needs
-
 returns : tie.Need-returns
 returns c =
     let a = c .before .before .before .before .before .before .args in
     rewritten-over (a .layout) (a .live) (a .work .now) (c .before .before .before .before .before .before .pre .0) (c .before .before .before .before .before .before .pre .1) (a .at) (c .before .before .before .before .before .before .pre .2) (a .fit) (take (a .domain) (a .flags)) _ _ (c .before .before .before .front-rewritten .ensures) (c .if1 .taken)
-
-same-length-2 : tie.Need-same-length-2
-same-length-2 c = search needs
 
 returns-2 : tie.Need-returns-2
 returns-2 c =
@@ -43,10 +32,10 @@ pub replaced-spec : {M : Type 1} → statement M
 replaced-spec =
     tie.close
     (tie.spec
-    slice-relend-prefix-front-rewritten
+    (λ c. search needs)
     slice-aggregate-front-rewritten
     front-rewritten-requires
-    same-length
+    (λ c. search needs)
     returns
-    same-length-2
+    (λ c. search needs)
     returns-2)

@@ -2,7 +2,7 @@
 -- Assumes nothing.
 use borrow.Author.Needs.{needs}
 use native.Mathlib.Omega.{arith}
-use mathlib.Core.Path.{_≡_, refl, sym, ap, _∙_, subst}
+use mathlib.Core.Path.{sym}
 use Rattle.text.specs.memory.RuleLines.{positionAt}
 use Rattle.replay.specs.memory.Held.{targetIn}
 use Rattle.replay.specs.memory.Steps.{heldIn, rowsIn}
@@ -14,12 +14,6 @@ use Rattle.replay.proofs.rewriting.rewritten.Tie as tie
 
 path-target-requires : tie.Need-path-target-requires
 path-target-requires c κs = omega (arith, c .before .before .before .pre .0, c .before .before .before .pre .1, c .before .before .before .pre)
-
-enum-known-at : tie.Need-enum-known-at
-enum-known-at c = search needs
-
-same-length : tie.Need-same-length
-same-length c = search needs
 
 returns : tie.Need-returns
 returns c =
@@ -37,12 +31,6 @@ rewritten-at-requires c κs =
     let t = told-at (targetIn m p) (a .live) _ (c .before .before .before .before .before .path-target .ensures) _ _ (c .before .before .before .at .given .1) in
     (c .before .before .before .before .before .before .before .before .before .pre .0, c .before .before .before .before .before .before .before .before .before .pre .1, omega (arith, t .1 .1), c .before .before .before .before .before .before .before .before .before .pre .2)
 
-enum-known-number : tie.Need-enum-known-number
-enum-known-number c = search needs
-
-same-length-2 : tie.Need-same-length-2
-same-length-2 c = search needs
-
 returns-2 : tie.Need-returns-2
 returns-2 c =
     let a = c .before .before .before .before .before .before .before .before .before .before .before .before .args in
@@ -50,9 +38,6 @@ returns-2 c =
     let p = positionAt (a .text .now) (a .name) (a .path) (a .steps) in
     let t = told-at (targetIn m p) (a .live) _ (c .before .before .before .before .before .before .before .before .path-target .ensures) _ _ (c .before .before .before .before .before .before .at .given .1) in
     told-as _ _ (a .layout) (a .work .now) (c .before .before .rewritten-at .result) (c .before .before .rewritten-at .last .0) (sym (rewritten-made (a .table) (rowsIn (a .layout) (a .work .now)) m (a .rule) p _ (t .0) (c .before .before .before .before .if1 .left))) (c .before .before .rewritten-at .ensures)
-
-same-length-3 : tie.Need-same-length-3
-same-length-3 c = search needs
 
 returns-3 : tie.Need-returns-3
 returns-3 c =
@@ -66,12 +51,12 @@ rewritten-spec =
     tie.close
     (tie.spec
     path-target-requires
-    enum-known-at
-    same-length
+    (λ c. search needs)
+    (λ c. search needs)
     returns
     rewritten-at-requires
-    enum-known-number
-    same-length-2
+    (λ c. search needs)
+    (λ c. search needs)
     returns-2
-    same-length-3
+    (λ c. search needs)
     returns-3)

@@ -2,20 +2,14 @@
 -- Assumes nothing.
 use borrow.Author.Needs.{needs}
 use native.Mathlib.Omega.{arith}
-use mathlib.Core.Path.{_≡_, refl, sym, ap, _∙_, subst}
-use lib.ListN.{length, take}
+use mathlib.Core.Path.{refl, sym, _∙_}
+use lib.ListN.{take}
 use lib.Seq.{length-take-le}
 use Rattle.replay.specs.memory.Steps.{heldIn, rowsIn}
 use Rattle.replay.proofs.Moves.{told-as}
 use Rattle.replay.proofs.Decisions.{fit-here, made-refused, made-fits}
 use Rattle.replay.proofs.rewriting.rewritten_at.Statement.{statement}
 use Rattle.replay.proofs.rewriting.rewritten_at.Tie as tie
-
-decision-at-requires : tie.Need-decision-at-requires
-decision-at-requires c κs = search needs
-
-same-length : tie.Need-same-length
-same-length c = search needs
 
 returns : tie.Need-returns
 returns c =
@@ -29,9 +23,6 @@ replaced-requires c κs =
     let h = fit-here (a .table) (rowsIn (a .layout) (a .work .now)) (a .rule) (take (a .live .full) (a .work .now)) (a .at) _ refl (sym (c .before .before .before .before .decision-at .ensures .numbered) ∙ c .before .before .if1 .left) in
     (c .before .before .before .before .before .before .before .pre .0, c .before .before .before .before .before .before .before .pre .1, omega (arith, h, l), c .before .before .before .before .before .before .before .pre .3)
 
-same-length-2 : tie.Need-same-length-2
-same-length-2 c = search needs
-
 returns-2 : tie.Need-returns-2
 returns-2 c =
     let a = c .before .before .before .before .before .before .before .before .before .before .args in
@@ -42,4 +33,4 @@ returns-2 c =
 pub rewritten-at-spec : {M : Type 1} → statement M
 rewritten-at-spec =
     tie.close
-    (tie.spec decision-at-requires same-length returns replaced-requires same-length-2 returns-2)
+    (tie.spec (λ c κs. search needs) (λ c. search needs) returns replaced-requires (λ c. search needs) returns-2)

@@ -2,8 +2,7 @@
 -- Assumes nothing.
 use borrow.Author.Needs.{needs}
 use native.Mathlib.Omega.{arith}
-use Prim.Native.Nat.{_≤_, _<_}
-use mathlib.Core.Path.{_≡_, refl, sym, ap, _∙_, subst}
+use mathlib.Core.Path.{sym, _∙_, subst}
 use lib.ListN.{length, take, drop}
 use lib.Seq.{length-take-le}
 use Rattle.text.specs.memory.RuleLines.{positionAt}
@@ -43,12 +42,6 @@ walk-requires c κs =
     let l = length-take-le (a .live .full) (a .work .now) (omega (arith, c .before .before .before .before .before .before .before .before .pre)) in
     omega (arith, c .before .before .before .before .before .before .before .before .pre, l, c .before .past .ensures .1)
 
-enum-known-at : tie.Need-enum-known-at
-enum-known-at c = search needs
-
-enum-told : tie.Need-enum-told
-enum-told c = search needs
-
 returns-2 : tie.Need-returns-2
 returns-2 c =
     let a = c .before .before .before .before .before .before .before .before .before .before .before .before .args in
@@ -78,7 +71,7 @@ path-target-spec =
     past-requires
     slice-aggregate-walk
     walk-requires
-    enum-known-at
-    enum-told
+    (λ c. search needs)
+    (λ c. search needs)
     returns-2
     returns-3)

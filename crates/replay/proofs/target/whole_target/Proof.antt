@@ -1,8 +1,6 @@
 -- `target::whole_target`: the target, if the path is empty and UNSAT was not.
 -- Assumes nothing.
 use borrow.Author.Needs.{needs}
-use native.Mathlib.Omega.{arith}
-use mathlib.Core.Path.{_≡_, refl, sym, ap, _∙_, subst}
 use lib.ListN.{take, drop}
 use Rattle.text.specs.memory.RuleLines.{positionAt}
 use Rattle.replay.specs.memory.Held.{held, targetIn}
@@ -12,9 +10,6 @@ use Rattle.replay.proofs.target.whole_target.Tie as tie
 
 path-target-requires : tie.Need-path-target-requires
 path-target-requires c κs = c .before .before .pre
-
-enum-known-index : tie.Need-enum-known-index
-enum-known-index c = search needs
 
 returns : tie.Need-returns
 returns c =
@@ -31,9 +26,6 @@ returns-2 c =
     let p = positionAt (a .text .now) (a .name) (a .path) (a .steps) in
     let t = told-at (targetIn m p) (a .live) _ (c .before .before .before .before .before .path-target .ensures) _ _ (c .before .before .before .index .given .1) in
     whole-ended m p _ (t .0) (steps-none (a .text .now) (a .path) (a .steps) (c .before .if1 .left)) (c .if2 .taken)
-
-enum-known-number : tie.Need-enum-known-number
-enum-known-number c = search needs
 
 returns-3 : tie.Need-returns-3
 returns-3 c =
@@ -55,9 +47,9 @@ whole-target-spec =
     tie.close
     (tie.spec
     path-target-requires
-    enum-known-index
+    (λ c. search needs)
     returns
     returns-2
-    enum-known-number
+    (λ c. search needs)
     returns-3
     returns-4)

@@ -7,21 +7,12 @@ use Rattle.replay.proofs.Moves.{falsified-moved}
 use Rattle.replay.proofs.whole.falsified.Statement.{statement}
 use Rattle.replay.proofs.whole.falsified.Tie as tie
 
-slice-write-work : tie.Need-slice-write-work
-slice-write-work c = search needs
-
-mul-work : tie.Need-mul-work
-mul-work c = search needs
-
 slice-write-work-2 : tie.Need-slice-write-work-2
 slice-write-work-2 c = let l = length-set (c .args .work .now) 0 0 in omega (arith, c .pre, l)
-
-same-length : tie.Need-same-length
-same-length c = search needs
 
 returns : tie.Need-returns
 returns c = falsified-moved (c .args .layout) (c .args .live) (c .args .work .now) (c .pre) (c .args .name)
 
 pub falsified-spec : {M : Type 1} → statement M
 falsified-spec =
-    tie.close (tie.spec slice-write-work mul-work slice-write-work-2 same-length returns)
+    tie.close (tie.spec (λ c. search needs) (λ c. search needs) slice-write-work-2 (λ c. search needs) returns)

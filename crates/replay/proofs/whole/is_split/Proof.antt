@@ -1,34 +1,10 @@
 -- `whole::is_split`: by the kind of the word.
 -- Assumes nothing.
 use borrow.Author.Needs.{needs}
-use mathlib.Core.Path.{_≡_, refl, sym, ap, _∙_}
+use mathlib.Core.Path.{sym, ap, _∙_}
 use Rattle.replay.specs.memory.Held.{isSplit}
 use Rattle.replay.proofs.whole.is_split.Statement.{statement}
 use Rattle.replay.proofs.whole.is_split.Tie as tie
-
-kind-of-requires : tie.Need-kind-of-requires
-kind-of-requires c κs = search needs
-
-enum-told : tie.Need-enum-told
-enum-told c = search needs
-
-enum-told-2 : tie.Need-enum-told-2
-enum-told-2 c = search needs
-
-enum-told-3 : tie.Need-enum-told-3
-enum-told-3 c = search needs
-
-enum-known-sign : tie.Need-enum-known-sign
-enum-known-sign c = search needs
-
-is-conjunction-requires : tie.Need-is-conjunction-requires
-is-conjunction-requires c κs = search needs
-
-enum-told-4 : tie.Need-enum-told-4
-enum-told-4 c = search needs
-
-enum-told-5 : tie.Need-enum-told-5
-enum-told-5 c = search needs
 
 returns : tie.Need-returns
 returns c = sym (ap (λ k. isSplit k (c .before .before .before .args .many)) (sym (c .before .before .kind-of .ensures) ∙ c .enum-told .given .1))
@@ -52,14 +28,14 @@ pub is-split-spec : {M : Type 1} → statement M
 is-split-spec =
     tie.close
     (tie.spec
-    kind-of-requires
-    enum-told
-    enum-told-2
-    enum-told-3
-    enum-known-sign
-    is-conjunction-requires
-    enum-told-4
-    enum-told-5
+    (λ c κs. search needs)
+    (λ c. search needs)
+    (λ c. search needs)
+    (λ c. search needs)
+    (λ c. search needs)
+    (λ c κs. search needs)
+    (λ c. search needs)
+    (λ c. search needs)
     returns
     returns-2
     returns-3

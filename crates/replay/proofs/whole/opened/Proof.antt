@@ -2,16 +2,12 @@
 -- Assumes nothing.
 use borrow.Author.Needs.{needs}
 use native.Mathlib.Omega.{arith}
-use Prim.Native.Nat.{_≤_, _<_}
 use mathlib.Core.Path.{_≡_, sym}
-use lib.ListN.{length, take, drop}
+use lib.ListN.{length, take}
 use lib.Seq.{length-take-le}
-use Rattle.replay.proofs.Moves.{mid-long, names-roomy, opened-moved}
+use Rattle.replay.proofs.Moves.{names-roomy, opened-moved}
 use Rattle.replay.proofs.whole.opened.Statement.{statement}
 use Rattle.replay.proofs.whole.opened.Tie as tie
-
-slice-relend-prefix-front-without : tie.Need-slice-relend-prefix-front-without
-slice-relend-prefix-front-without c = search needs
 
 slice-aggregate-front-without : tie.Need-slice-aggregate-front-without
 slice-aggregate-front-without c = sym (length-take-le (c .before .before .before .args .layout .rows) (c .before .before .before .args .work .now) (omega (arith, c .before .before .before .pre .0)))
@@ -21,26 +17,11 @@ front-without-requires c κs =
     let l = length-take-le (c .before .before .before .args .layout .rows) (c .before .before .before .args .work .now) (omega (arith, c .before .before .before .pre .0)) in
     record { here = c .before .before .before .pre .3; apart = omega (arith, c .before .before .before .pre .0, c .before .before .before .pre .1); room = omega (arith, c .before .before .before .pre .0, l); long = omega (arith, c .before .before .before .pre .0, l) }
 
-mul-with-names : tie.Need-mul-with-names
-mul-with-names c = search needs
-
-sub-with-names : tie.Need-sub-with-names
-sub-with-names c = search needs
-
-part-with-names-start : tie.Need-part-with-names-start
-part-with-names-start c = search needs
-
-part-with-names-end : tie.Need-part-with-names-end
-part-with-names-end c = search needs
-
 with-names-requires : tie.Need-with-names-requires
 with-names-requires c κs =
     let a = c .before .before .before .before .before .before .before .args in
     let same : length (c .before .before .before .front-without .last .0) ≡ length (take (a .layout .rows) (a .work .now)) = search needs in
     (names-roomy (a .layout) (a .live) (a .work .now) (c .before .before .before .before .before .before .before .pre .0) (c .before .before .before .before .before .before .before .pre .1) (a .index) (a .at) (c .before .before .before .before .before .before .before .pre .2) (c .before .before .before .before .before .before .before .pre .3) (c .before .before .before .front-without .last .0) same, c .before .before .before .before .before .before .before .pre .5, c .before .before .before .before .before .before .before .pre .6, omega (arith, c .before .before .before .before .before .before .before .pre .0, c .before .before .before .before .before .before .before .pre .4))
-
-same-length : tie.Need-same-length
-same-length c = search needs
 
 returns : tie.Need-returns
 returns c =
@@ -52,13 +33,13 @@ pub opened-spec : {M : Type 1} → statement M
 opened-spec =
     tie.close
     (tie.spec
-    slice-relend-prefix-front-without
+    (λ c. search needs)
     slice-aggregate-front-without
     front-without-requires
-    mul-with-names
-    sub-with-names
-    part-with-names-start
-    part-with-names-end
+    (λ c. search needs)
+    (λ c. search needs)
+    (λ c. search needs)
+    (λ c. search needs)
     with-names-requires
-    same-length
+    (λ c. search needs)
     returns)

@@ -2,7 +2,7 @@
 -- Assumes nothing.
 use borrow.Author.Needs.{needs}
 use native.Mathlib.Omega.{arith}
-use mathlib.Core.Path.{_≡_, refl, sym, ap, _∙_}
+use mathlib.Core.Path.{sym, _∙_}
 use Rattle.text.specs.memory.RuleLines.{positionAt}
 use Rattle.replay.specs.memory.Held.{wholeIn}
 use Rattle.replay.specs.memory.Steps.{heldIn}
@@ -15,14 +15,8 @@ use Rattle.replay.proofs.whole.refuted.Tie as tie
 whole-target-requires : tie.Need-whole-target-requires
 whole-target-requires c κs = omega (arith, c .before .before .before .pre .0, c .before .before .before .pre .1, c .before .before .before .pre)
 
-enum-known-at : tie.Need-enum-known-at
-enum-known-at c = search needs
-
 word-at-requires : tie.Need-word-at-requires
 word-at-requires c κs = omega (arith, c .before .before .before .before .before .before .before .before .pre .0, c .before .before .before .before .before .before .before .before .pre .1)
-
-same-length : tie.Need-same-length
-same-length c = search needs
 
 returns : tie.Need-returns
 returns c =
@@ -35,12 +29,6 @@ returns c =
 falsified-requires : tie.Need-falsified-requires
 falsified-requires c κs = c .before .before .before .before .before .before .before .before .before .before .before .pre .0
 
-enum-known-number : tie.Need-enum-known-number
-enum-known-number c = search needs
-
-same-length-2 : tie.Need-same-length-2
-same-length-2 c = search needs
-
 returns-2 : tie.Need-returns-2
 returns-2 c =
     let a = c .before .before .before .before .before .before .before .before .before .before .before .before .before .before .args in
@@ -48,9 +36,6 @@ returns-2 c =
     let p = positionAt (a .text .now) (a .name) (a .path) (a .steps) in
     let t = told-at (wholeIn m p) (a .live) _ (c .before .before .before .before .before .before .before .before .before .before .whole-target .ensures) _ _ (c .before .before .before .before .before .before .before .before .at .given .1) in
     moved-as _ _ (a .layout) (a .work .now) (c .before .before .falsified .result) (c .before .before .falsified .last .0) (sym (refuted-false m p _ (t .0) (sym (c .before .before .before .before .before .word-at .ensures) ∙ c .before .before .before .before .if1 .left))) (c .before .before .falsified .ensures)
-
-same-length-3 : tie.Need-same-length-3
-same-length-3 c = search needs
 
 returns-3 : tie.Need-returns-3
 returns-3 c =
@@ -64,13 +49,13 @@ refuted-spec =
     tie.close
     (tie.spec
     whole-target-requires
-    enum-known-at
+    (λ c. search needs)
     word-at-requires
-    same-length
+    (λ c. search needs)
     returns
     falsified-requires
-    enum-known-number
-    same-length-2
+    (λ c. search needs)
+    (λ c. search needs)
     returns-2
-    same-length-3
+    (λ c. search needs)
     returns-3)

@@ -2,13 +2,11 @@
 -- Assumes nothing.
 use borrow.Author.Needs.{needs}
 use native.Mathlib.Omega.{arith}
-use Prim.Native.Nat.{_+_, _≤_}
-use mathlib.Core.Path.{_≡_, refl, sym, ap, _∙_}
+use mathlib.Core.Path.{sym, _∙_}
 use Rattle.text.specs.memory.Numbers.{numbersAt}
 use Rattle.text.specs.memory.RuleLines.{positionAt}
 use borrow.Author.Tests.{not-true, not-false}
-use Rattle.formula.specs.memory.Kinds.{kindOf}
-use Rattle.replay.specs.memory.Held.{wholeIn, isSplit}
+use Rattle.replay.specs.memory.Held.{wholeIn}
 use Rattle.replay.specs.memory.Steps.{heldIn}
 use Rattle.replay.proofs.NameLists.{numbers-length, region-length}
 use Rattle.replay.proofs.Targets.{told-at, told-refused}
@@ -20,23 +18,11 @@ use Rattle.replay.proofs.whole.split.Tie as tie
 climbs-requires : tie.Need-climbs-requires
 climbs-requires c κs = omega (arith, c .before .before .pre)
 
-enum-known-top : tie.Need-enum-known-top
-enum-known-top c = search needs
-
 whole-target-requires : tie.Need-whole-target-requires
 whole-target-requires c κs = omega (arith, c .before .before .before .before .before .before .before .pre .0, c .before .before .before .before .before .before .before .pre .1, c .before .before .before .before .before .before .before .pre)
 
-enum-known-index : tie.Need-enum-known-index
-enum-known-index c = search needs
-
 word-at-requires : tie.Need-word-at-requires
 word-at-requires c κs = omega (arith, c .before .before .before .before .before .before .before .before .before .before .before .before .pre .0, c .before .before .before .before .before .before .before .before .before .before .before .before .pre .1)
-
-is-split-requires : tie.Need-is-split-requires
-is-split-requires c κs = search needs
-
-same-length : tie.Need-same-length
-same-length c = search needs
 
 returns : tie.Need-returns
 returns c =
@@ -48,12 +34,6 @@ returns c =
     let t = told-at (wholeIn m p) (a .live) _ (c .before .before .before .before .before .before .before .whole-target .ensures) _ _ (c .before .before .before .before .before .index .given .1) in
     let n = numbers-length (a .text .now) (a .names) (a .many) in
     split-other m p names (k .0) _ (t .0) (rw (n, ← c .before .before .word-at .ensures, ← c .before .is-split .ensures) (not-true _ (c .if1 .taken)))
-
-add-if2 : tie.Need-add-if2
-add-if2 c = search needs
-
-same-length-2 : tie.Need-same-length-2
-same-length-2 c = search needs
 
 returns-2 : tie.Need-returns-2
 returns-2 c =
@@ -79,15 +59,6 @@ opened-requires c κs =
     let h = word-here (a .work .now) (a .live .full) (c .before .before .before .before .before .before .before .before .index .given .0 .1 .0) (λ e. split-some _ _ (sym (c .before .before .before .before .is-split .ensures) ∙ not-false _ (c .before .before .before .if1 .left)) (c .before .before .before .before .before .word-at .ensures ∙ e)) in
     (c .before .before .before .before .before .before .before .before .before .before .before .before .before .before .before .before .before .before .pre .0, c .before .before .before .before .before .before .before .before .before .before .before .before .before .before .before .before .before .before .pre .1, t .1 .0, h, omega (arith, c .before .if2 .left), c .before .before .before .before .before .before .before .before .before .before .before .before .before .before .before .before .before .before .pre .3, omega (arith, c .before .before .before .before .before .before .before .before .before .before .before .before .before .before .before .before .before .before .pre .5))
 
-enum-known-number : tie.Need-enum-known-number
-enum-known-number c = search needs
-
-enum-told : tie.Need-enum-told
-enum-told c = search needs
-
-same-length-3 : tie.Need-same-length-3
-same-length-3 c = search needs
-
 returns-3 : tie.Need-returns-3
 returns-3 c =
     let a = c .before .before .before .before .before .before .before .before .before .before .before .before .before .before .before .before .before .before .before .before .before .args in
@@ -99,9 +70,6 @@ returns-3 c =
     let n = numbers-length (a .text .now) (a .names) (a .many) in
     let l = region-length (a .work .now) (a .layout .names) (a .live .count) (omega (arith, c .before .before .before .before .before .before .before .before .before .before .before .before .before .before .before .before .before .before .before .before .before .pre .0, c .before .before .before .before .before .before .before .before .before .before .before .before .before .before .before .before .before .before .before .before .before .pre .1)) in
     moved-as _ _ (a .layout) (a .work .now) (c .before .before .opened .result) (c .before .before .opened .last .1 .0) (sym (split-done m p names (k .0) _ (t .0) (rw (n, ← c .before .before .before .before .before .before .before .before .word-at .ensures, ← c .before .before .before .before .before .before .before .is-split .ensures) (not-false _ (c .before .before .before .before .before .before .if1 .left))) (omega (arith, l, n, c .before .before .before .before .if2 .left)) ∙ rw (k .1))) (c .before .before .opened .ensures)
-
-same-length-4 : tie.Need-same-length-4
-same-length-4 c = search needs
 
 returns-4 : tie.Need-returns-4
 returns-4 c =
@@ -122,21 +90,21 @@ split-spec =
     tie.close
     (tie.spec
     climbs-requires
-    enum-known-top
+    (λ c. search needs)
     whole-target-requires
-    enum-known-index
+    (λ c. search needs)
     word-at-requires
-    is-split-requires
-    same-length
+    (λ c κs. search needs)
+    (λ c. search needs)
     returns
-    add-if2
-    same-length-2
+    (λ c. search needs)
+    (λ c. search needs)
     returns-2
     opened-requires
-    enum-known-number
-    enum-told
-    same-length-3
+    (λ c. search needs)
+    (λ c. search needs)
+    (λ c. search needs)
     returns-3
-    same-length-4
+    (λ c. search needs)
     returns-4
     returns-5)

@@ -2,18 +2,11 @@
 -- Assumes nothing.
 use borrow.Author.Needs.{needs}
 use native.Mathlib.Omega.{arith}
-use Prim.Native.Nat.{_≤_}
-use mathlib.Core.Path.{_≡_, sym}
-use lib.ListN.{length, getD, take, List·getD-eq-default}
+use mathlib.Core.Path.{sym}
+use lib.ListN.{take, List·getD-eq-default}
 use lib.Seq.{getD-take, length-take-le}
 use Rattle.replay.proofs.whole.word_at.Statement.{statement}
 use Rattle.replay.proofs.whole.word_at.Tie as tie
-
-mul-result : tie.Need-mul-result
-mul-result c = search needs
-
-shared-slice-read-result : tie.Need-shared-slice-read-result
-shared-slice-read-result c = search needs
 
 returns : tie.Need-returns
 returns c = sym (getD-take (c .before .before .args .full) (c .before .before .args .work .now) (c .before .before .args .at) 0 (c .before .if1 .taken))
@@ -24,4 +17,4 @@ returns-2 c =
     sym (List·getD-eq-default (take (c .before .args .full) (c .before .args .work .now)) 0 (omega (arith, l, c .if1 .left)))
 
 pub word-at-spec : {M : Type 1} → statement M
-word-at-spec = tie.close (tie.spec mul-result shared-slice-read-result returns returns-2)
+word-at-spec = tie.close (tie.spec (λ c. search needs) (λ c. search needs) returns returns-2)

@@ -5,9 +5,6 @@ use Rattle.text.proofs.Places.{next-within, next-beyond}
 use Rattle.text.proofs.byte.peek.Statement.{statement}
 use Rattle.text.proofs.byte.peek.Tie as tie
 
-shared-slice-read-result : tie.Need-shared-slice-read-result
-shared-slice-read-result c = search needs
-
 returns : tie.Need-returns
 returns c = next-within (c .before .before .args .text .now) (c .before .before .args .at)
 
@@ -15,4 +12,4 @@ returns-2 : tie.Need-returns-2
 returns-2 c = next-beyond (c .before .args .text .now) (c .before .args .at) (c .if1 .left)
 
 pub peek-spec : {M : Type 1} → statement M
-peek-spec = tie.close (tie.spec shared-slice-read-result returns returns-2)
+peek-spec = tie.close (tie.spec (λ c. search needs) returns returns-2)

@@ -21,23 +21,11 @@ abbrev μ-loop : tie.MeasureT-loop
 loop-holds : tie.Need-loop-holds Inv-loop μ-loop
 loop-holds c = (omega arith, refl)
 
-shared-slice-read-belongs : tie.Need-shared-slice-read-belongs Inv-loop μ-loop
-shared-slice-read-belongs c = search needs
-
-belongs-requires : tie.Need-belongs-requires Inv-loop μ-loop
-belongs-requires c κs = search needs
-
 returns : tie.Need-returns Inv-loop μ-loop
 returns c =
     let a = c .before .before .before .before .before .before .args in
     let z = ap length (span-stop (a .text .now) (c .before .before .before .before .loop .i) (c .before .before .before .loop-test .taken) (inClass (a .class)) (sym (c .before .belongs .ensures) ∙ not-true _ (c .if1 .taken))) in
     omega arith
-
-add-i : tie.Need-add-i Inv-loop μ-loop
-add-i c = search needs
-
-loop-less : tie.Need-loop-less Inv-loop μ-loop
-loop-less c = search needs
 
 loop-again : tie.Need-loop-again Inv-loop μ-loop
 loop-again c =
@@ -58,10 +46,10 @@ run-end-spec =
     Inv-loop
     μ-loop
     loop-holds
-    shared-slice-read-belongs
-    belongs-requires
+    (λ c. search needs)
+    (λ c κs. search needs)
     returns
-    add-i
-    loop-less
+    (λ c. search needs)
+    (λ c. search needs)
     loop-again
     returns-2)

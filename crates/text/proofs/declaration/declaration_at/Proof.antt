@@ -2,7 +2,7 @@
 -- Assumes nothing.
 use borrow.Author.Needs.{needs}
 use native.Mathlib.Omega.{arith}
-use mathlib.Core.Path.{_≡_, sym, subst, _∙_}
+use mathlib.Core.Path.{sym, subst, _∙_}
 use borrow.Author.Tests.{not-true, not-false}
 use Prim.Native.Nat.{_+_}
 use Rattle.text.specs.memory.Declarations.{readLastNumber, ToldLast}
@@ -11,22 +11,10 @@ use Rattle.text.proofs.FoundBytes.{byte-inside}
 use Rattle.text.proofs.declaration.declaration_at.Statement.{statement}
 use Rattle.text.proofs.declaration.declaration_at.Tie as tie
 
-peek-requires : tie.Need-peek-requires
-peek-requires c κs = search needs
-
-is-capital-requires : tie.Need-is-capital-requires
-is-capital-requires c κs = search needs
-
 returns : tie.Need-returns
 returns c =
     let a = c .before .before .before .before .args in
     predicate-unnamed (a .text .now) (a .at) (rw (c .before .before .peek .ensures) at (sym (c .before .is-capital .ensures) ∙ not-true _ (c .if1 .taken)))
-
-run-end-requires : tie.Need-run-end-requires
-run-end-requires c κs = search needs
-
-peek-requires-2 : tie.Need-peek-requires-2
-peek-requires-2 c κs = search needs
 
 returns-2 : tie.Need-returns-2
 returns-2 c =
@@ -34,26 +22,11 @@ returns-2 c =
     predicate-unparted (a .text .now) (a .at) (rw (c .before .before .before .before .before .peek .ensures) at (sym (c .before .before .before .before .is-capital .ensures) ∙ not-false _ (c .before .before .before .if1 .left)))
     (c .before .before .run-end .result) (c .before .before .run-end .ensures .0) (c .before .before .run-end .ensures .1) (λ e. c .if2 .taken (c .before .peek2 .ensures ∙ e))
 
-add-last-number : tie.Need-add-last-number
-add-last-number c = search needs
-
 last-number-requires : tie.Need-last-number-requires
 last-number-requires c κs =
     let a = c .before .before .before .before .before .before .before .args in
     let h = byte-inside (a .text .now) (c .before .before .run-end .result) 47 (omega arith) (sym (c .before .peek2 .ensures) ∙ c .if2 .left) in
     omega arith
-
-enum-known-next : tie.Need-enum-known-next
-enum-known-next c = search needs
-
-sub-t13 : tie.Need-sub-t13
-sub-t13 c = search needs
-
-enum-told : tie.Need-enum-told
-enum-told c = search needs
-
-enum-told-2 : tie.Need-enum-told-2
-enum-told-2 c = search needs
 
 returns-3 : tie.Need-returns-3
 returns-3 c =
@@ -80,18 +53,18 @@ pub declaration-at-spec : {M : Type 1} → statement M
 declaration-at-spec =
     tie.close
     (tie.spec
-    peek-requires
-    is-capital-requires
+    (λ c κs. search needs)
+    (λ c κs. search needs)
     returns
-    run-end-requires
-    peek-requires-2
+    (λ c κs. search needs)
+    (λ c κs. search needs)
     returns-2
-    add-last-number
+    (λ c. search needs)
     last-number-requires
-    enum-known-next
-    sub-t13
-    enum-told
-    enum-told-2
+    (λ c. search needs)
+    (λ c. search needs)
+    (λ c. search needs)
+    (λ c. search needs)
     returns-3
     returns-4
     returns-5)

@@ -2,7 +2,7 @@
 -- Assumes nothing.
 use borrow.Author.Needs.{needs}
 use native.Mathlib.Omega.{arith}
-use mathlib.Core.Path.{_≡_, sym, _∙_}
+use mathlib.Core.Path.{sym, _∙_}
 use borrow.Author.Tests.{not-true, not-false}
 use Rattle.text.specs.Bytes.{bytes}
 use Rattle.text.proofs.DeclarationPlaces.{domain-misspelled, domain-behind}
@@ -10,19 +10,10 @@ use Rattle.text.proofs.Found.{word-found}
 use Rattle.text.proofs.declaration.domain_at.Statement.{statement}
 use Rattle.text.proofs.declaration.domain_at.Tie as tie
 
-slice-aggregate-begins-at : tie.Need-slice-aggregate-begins-at
-slice-aggregate-begins-at c = search needs
-
-begins-at-requires : tie.Need-begins-at-requires
-begins-at-requires c κs = search needs
-
 returns : tie.Need-returns
 returns c =
     let a = c .before .before .before .before .args in
     domain-misspelled (a .text .now) (a .at) (sym (c .before .begins-at .ensures) ∙ not-true _ (c .if1 .taken))
-
-add-last-number : tie.Need-add-last-number
-add-last-number c = search needs
 
 last-number-requires : tie.Need-last-number-requires
 last-number-requires c κs =
@@ -40,9 +31,9 @@ pub domain-at-spec : {M : Type 1} → statement M
 domain-at-spec =
     tie.close
     (tie.spec
-    slice-aggregate-begins-at
-    begins-at-requires
+    (λ c. search needs)
+    (λ c κs. search needs)
     returns
-    add-last-number
+    (λ c. search needs)
     last-number-requires
     returns-2)

@@ -2,21 +2,12 @@
 -- Assumes nothing.
 use borrow.Author.Needs.{needs}
 use native.Mathlib.Omega.{arith}
-use mathlib.Core.Path.{_≡_, sym, subst, _∙_}
+use mathlib.Core.Path.{sym, subst, _∙_}
 use Rattle.text.specs.memory.Numbers.{ToldNumber}
 use Rattle.text.proofs.DeclarationPlaces.{last-misspelled, last-small, last-small-unended, last-large, last-large-unended}
 use Rattle.text.proofs.FoundBytes.{byte-inside}
 use Rattle.text.proofs.declaration.last_number.Statement.{statement}
 use Rattle.text.proofs.declaration.last_number.Tie as tie
-
-number-at-requires : tie.Need-number-at-requires
-number-at-requires c κs = search needs
-
-enum-known-next : tie.Need-enum-known-next
-enum-known-next c = search needs
-
-peek-requires : tie.Need-peek-requires
-peek-requires c κs = search needs
 
 returns : tie.Need-returns
 returns c =
@@ -30,12 +21,6 @@ add-t10 c =
     let h = byte-inside (a .text .now) (c .before .before .before .next .given .0 .0) 10 (omega arith) (sym (c .before .peek .ensures) ∙ c .if1 .left) in
     omega arith
 
-enum-known-next-2 : tie.Need-enum-known-next-2
-enum-known-next-2 c = search needs
-
-peek-requires-2 : tie.Need-peek-requires-2
-peek-requires-2 c κs = search needs
-
 returns-2 : tie.Need-returns-2
 returns-2 c =
     let a = c .before .before .before .before .before .before .before .args in
@@ -47,9 +32,6 @@ add-t13 c =
     let a = c .before .before .before .before .before .before .before .args in
     let h = byte-inside (a .text .now) (c .before .before .before .next2 .given .0 .0) 10 (omega arith) (sym (c .before .peek2 .ensures) ∙ c .if2 .left) in
     omega arith
-
-enum-told : tie.Need-enum-told
-enum-told c = search needs
 
 returns-3 : tie.Need-returns-3
 returns-3 c =
@@ -72,16 +54,16 @@ pub last-number-spec : {M : Type 1} → statement M
 last-number-spec =
     tie.close
     (tie.spec
-    number-at-requires
-    enum-known-next
-    peek-requires
+    (λ c κs. search needs)
+    (λ c. search needs)
+    (λ c κs. search needs)
     returns
     add-t10
-    enum-known-next-2
-    peek-requires-2
+    (λ c. search needs)
+    (λ c κs. search needs)
     returns-2
     add-t13
-    enum-told
+    (λ c. search needs)
     returns-3
     returns-4
     returns-5)

@@ -1,6 +1,6 @@
 -- `line::feeds` counts an LF as one.
 -- Assumes nothing.
-use borrow.Author.Tests.{eq-eqb, ne-eqb}
+use borrow.Author.Tests.{ne-eqb}
 use Rattle.text.proofs.line.feeds.Statement.{statement}
 use Rattle.text.proofs.line.feeds.Tie as tie
 

@@ -3,7 +3,7 @@
 use borrow.Author.Needs.{needs}
 use native.Mathlib.Omega.{arith}
 use Prim.Native.Nat.{_+_, _-_, _≤_}
-use mathlib.Core.Path.{_≡_, refl, sym, ap, _∙_}
+use mathlib.Core.Path.{_≡_, sym}
 use lib.ListN.{length, drop, getD}
 use Rattle.text.specs.Lines.{isLF, lineStart, linesSize}
 use Rattle.text.proofs.Places.{linesSize-more, linesSize-none, linesSize-beyond, lineStart-later, feeds-atmost}
@@ -19,9 +19,6 @@ abbrev μ-loop : tie.MeasureT-loop
 returns : tie.Need-returns Inv-loop μ-loop
 returns c = (rw (c .if1 .taken), omega arith)
 
-sub-left : tie.Need-sub-left Inv-loop μ-loop
-sub-left c = search needs
-
 loop-holds : tie.Need-loop-holds Inv-loop μ-loop
 loop-holds c = let z = lineStart-later (c .before .before .args .text .now) (c .before .before .args .line) (c .if1 .left) in (omega arith, omega arith)
 
@@ -30,22 +27,10 @@ returns-2 c =
     let z = rw (sym (c .if2 .taken)) at (linesSize-none (drop (c .before .before .loop .i) (c .before .before .before .before .before .args .text .now))) in
     (omega arith, omega arith)
 
-shared-slice-read-feeds : tie.Need-shared-slice-read-feeds Inv-loop μ-loop
-shared-slice-read-feeds c = search needs
-
-feeds-requires : tie.Need-feeds-requires Inv-loop μ-loop
-feeds-requires c κs = search needs
-
 sub-left-2 : tie.Need-sub-left-2 Inv-loop μ-loop
 sub-left-2 c =
     let z = feeds-atmost (isLF (getD (c .before .before .before .before .before .before .before .args .text .now) (c .before .before .before .before .loop .i) 0)) (c .before .before .before .before .loop .left) (c .before .before .if2 .left) in
     omega (arith, c .feeds .ensures)
-
-add-i : tie.Need-add-i Inv-loop μ-loop
-add-i c = search needs
-
-loop-less : tie.Need-loop-less Inv-loop μ-loop
-loop-less c = search needs
 
 loop-again : tie.Need-loop-again Inv-loop μ-loop
 loop-again c =
@@ -65,13 +50,13 @@ line-start-spec =
     Inv-loop
     μ-loop
     returns
-    sub-left
+    (λ c. search needs)
     loop-holds
     returns-2
-    shared-slice-read-feeds
-    feeds-requires
+    (λ c. search needs)
+    (λ c κs. search needs)
     sub-left-2
-    add-i
-    loop-less
+    (λ c. search needs)
+    (λ c. search needs)
     loop-again
     returns-3)

@@ -34,45 +34,15 @@ write-number-below t =
 abbrev write-number-calls : ℕ → write-number-lts.Claims
 write-number-calls t = (put-reads.Asked, put-reads.Learnt, write-number-below t, write-number.Post)
 
-write-number-cast-put : (t : ℕ) → write-number-lts.Need-cast-put (write-number-calls t) (write-number-at t) write-number.Post
-write-number-cast-put t c = search needs
-
-write-number-add-put : (t : ℕ) → write-number-lts.Need-add-put (write-number-calls t) (write-number-at t) write-number.Post
-write-number-add-put t c = search needs
-
-write-number-put-requires : (t : ℕ) → write-number-lts.Need-put-requires (write-number-calls t) (write-number-at t) write-number.Post
-write-number-put-requires t c κs = search needs
-
-write-number-add-result : (t : ℕ) → write-number-lts.Need-add-result (write-number-calls t) (write-number-at t) write-number.Post
-write-number-add-result t c = search needs
-
-write-number-same-length : (t : ℕ) → write-number-lts.Need-same-length (write-number-calls t) (write-number-at t) write-number.Post
-write-number-same-length t c = search needs
-
 write-number-returns : (t : ℕ) → write-number-lts.Need-returns (write-number-calls t) (write-number-at t) write-number.Post
 write-number-returns t c =
     let a = c .before .before .before .before .before .before .args in
     (c .before .before .put .ensures ∙ write-one (a .n) (c .before .before .before .before .if1 .taken) (a .out .now) (a .at), length-one (a .n) (c .before .before .before .before .if1 .taken) (a .at))
 
-write-number-write-number-requires : (t : ℕ) → write-number-lts.Need-write-number-requires (write-number-calls t) (write-number-at t) write-number.Post
-write-number-write-number-requires t c κs = search needs
-
-write-number-cast-put-2 : (t : ℕ) → write-number-lts.Need-cast-put-2 (write-number-calls t) (write-number-at t) write-number.Post
-write-number-cast-put-2 t c = search needs
-
-write-number-add-put-2 : (t : ℕ) → write-number-lts.Need-add-put-2 (write-number-calls t) (write-number-at t) write-number.Post
-write-number-add-put-2 t c = search needs
-
-write-number-put-requires-2 : (t : ℕ) → write-number-lts.Need-put-requires-2 (write-number-calls t) (write-number-at t) write-number.Post
-write-number-put-requires-2 t c κs = search needs
-
 write-number-add-result-2 : (t : ℕ) → write-number-lts.Need-add-result-2 (write-number-calls t) (write-number-at t) write-number.Post
 write-number-add-result-2 t c =
     let a = c .before .before .before .before .before .before .before .before .before .before .args in
     omega (arith, c .before .before .before .before .before .before .write-number .ensures .1, length-decimal (a .n / 10))
-
-write-number-same-length-2 : (t : ℕ) → write-number-lts.Need-same-length-2 (write-number-calls t) (write-number-at t) write-number.Post
-write-number-same-length-2 t c = search needs
 
 write-number-returns-2 : (t : ℕ) → write-number-lts.Need-returns-2 (write-number-calls t) (write-number-at t) write-number.Post
 write-number-returns-2 t c =
@@ -84,16 +54,16 @@ pub +write-number-spec : {M : Type 1} → statement M
 +write-number-spec = close μ-write-number λ t. write-number-lts.spec (write-number-calls t)
     (write-number-at t)
     write-number.Post
-    (write-number-cast-put t)
-    (write-number-add-put t)
-    (write-number-put-requires t)
-    (write-number-add-result t)
-    (write-number-same-length t)
+    (λ c. search needs)
+    (λ c. search needs)
+    (λ c κs. search needs)
+    (λ c. search needs)
+    (λ c. search needs)
     (write-number-returns t)
-    (write-number-write-number-requires t)
-    (write-number-cast-put-2 t)
-    (write-number-add-put-2 t)
-    (write-number-put-requires-2 t)
+    (λ c κs. search needs)
+    (λ c. search needs)
+    (λ c. search needs)
+    (λ c κs. search needs)
     (write-number-add-result-2 t)
-    (write-number-same-length-2 t)
+    (λ c. search needs)
     (write-number-returns-2 t)

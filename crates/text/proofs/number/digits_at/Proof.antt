@@ -20,12 +20,6 @@ abbrev μ-loop : tie.MeasureT-loop
 loop-holds : tie.Need-loop-holds Inv-loop μ-loop
 loop-holds c = digits-first (c .before .args .text .now) (c .before .args .at)
 
-shared-slice-read-b : tie.Need-shared-slice-read-b Inv-loop μ-loop
-shared-slice-read-b c = search needs
-
-is-digit-requires : tie.Need-is-digit-requires Inv-loop μ-loop
-is-digit-requires c κs = search needs
-
 returns : tie.Need-returns Inv-loop μ-loop
 returns c =
     let text = c .before .before .before .before .before .before .args .text .now in
@@ -34,12 +28,6 @@ returns c =
 
 with-digit-requires : tie.Need-with-digit-requires Inv-loop μ-loop
 with-digit-requires c κs = (c .before .before .before .before .loop .inv .small, sym (c .before .is-digit .ensures) ∙ not-false _ (c .if1 .left))
-
-add-i : tie.Need-add-i Inv-loop μ-loop
-add-i c = search needs
-
-loop-less : tie.Need-loop-less Inv-loop μ-loop
-loop-less c = search needs
 
 loop-again : tie.Need-loop-again Inv-loop μ-loop
 loop-again c =
@@ -59,11 +47,11 @@ digits-at-spec =
     Inv-loop
     μ-loop
     loop-holds
-    shared-slice-read-b
-    is-digit-requires
+    (λ c. search needs)
+    (λ c κs. search needs)
     returns
     with-digit-requires
-    add-i
-    loop-less
+    (λ c. search needs)
+    (λ c. search needs)
     loop-again
     returns-2)

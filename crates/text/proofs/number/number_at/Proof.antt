@@ -7,12 +7,6 @@ use Rattle.text.proofs.NumberPlaces.{number-misspelled, number-small, n
 use Rattle.text.proofs.number.number_at.Statement.{statement}
 use Rattle.text.proofs.number.number_at.Tie as tie
 
-digits-at-requires : tie.Need-digits-at-requires
-digits-at-requires c κs = search needs
-
-well-spelled-requires : tie.Need-well-spelled-requires
-well-spelled-requires c κs = search needs
-
 returns : tie.Need-returns
 returns c =
     let a = c .before .before .before .before .args in
@@ -30,4 +24,4 @@ returns-3 c =
 
 pub number-at-spec : {M : Type 1} → statement M
 number-at-spec =
-    tie.close (tie.spec digits-at-requires well-spelled-requires returns returns-2 returns-3)
+    tie.close (tie.spec (λ c κs. search needs) (λ c κs. search needs) returns returns-2 returns-3)

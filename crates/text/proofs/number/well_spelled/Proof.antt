@@ -12,14 +12,8 @@ use Rattle.text.proofs.number.well_spelled.Tie as tie
 returns : tie.Need-returns
 returns c = spelled-none (c .before .before .args .text .now) (c .before .before .args .at) (c .before .before .args .next) (c .before .before .pre) (c .if1 .taken)
 
-sub-if2 : tie.Need-sub-if2
-sub-if2 c = search needs
-
 returns-2 : tie.Need-returns-2
 returns-2 c = spelled-one (c .before .before .before .args .text .now) (c .before .before .before .args .at) (c .before .before .before .args .next) (c .before .before .before .pre) (c .if2 .taken)
-
-peek-requires : tie.Need-peek-requires
-peek-requires c κs = search needs
 
 returns-3 : tie.Need-returns-3
 returns-3 c =
@@ -27,4 +21,4 @@ returns-3 c =
     ∙ spelled-more (c .before .before .before .before .args .text .now) (c .before .before .before .before .args .at) (c .before .before .before .before .args .next) (c .before .before .before .before .pre) (c .before .before .if1 .left) (c .before .if2 .left)
 
 pub well-spelled-spec : {M : Type 1} → statement M
-well-spelled-spec = tie.close (tie.spec returns sub-if2 returns-2 peek-requires returns-3)
+well-spelled-spec = tie.close (tie.spec returns (λ c. search needs) returns-2 (λ c κs. search needs) returns-3)

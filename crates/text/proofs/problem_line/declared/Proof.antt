@@ -25,12 +25,6 @@ fitting : (c : tie.After-fits2) {b : Bool} → c .fits2 .result ≡ b
     predicateFitsIn (a .text .now) (a .table) (predicateAt (a .text .now) (a .at) (s .size .given .0 .0) (s .size .given .0 .1 .0)) ≡ b
 fitting c e = sym (c .fits2 .ensures) ∙ e
 
-declaration-at-requires : tie.Need-declaration-at-requires
-declaration-at-requires c κs = search needs
-
-enum-known-size : tie.Need-enum-known-size
-enum-known-size c = search needs
-
 fits-requires : tie.Need-fits-requires
 fits-requires c κs = let f = predicate (c .before) in omega (arith, f .short, f .found .within)
 
@@ -42,9 +36,6 @@ returns c =
     declared-unfit (a .text .now) (a .at) (a .table) (g .0) (g .1 .0) (g .1 .1 .0) (predicate s)
     (fitting (c .before) (not-true _ (c .if1 .taken)))
 
-cast-entered : tie.Need-cast-entered
-cast-entered c = search needs
-
 cast-entered-2 : tie.Need-cast-entered-2
 cast-entered-2 c = let f = predicate (c .before .before .before) in omega (arith, f .short, f .found .within)
 
@@ -54,12 +45,6 @@ entered-requires c κs =
     let a = s .before .before .before .before .args in
     fits-room (a .text .now) (a .table) (predicateAt (a .text .now) (a .at) (s .size .given .0 .0) (s .size .given .0 .1 .0))
     (fitting (c .before) (not-false _ (c .if1 .left)))
-
-enum-told : tie.Need-enum-told
-enum-told c = search needs
-
-enum-told-2 : tie.Need-enum-told-2
-enum-told-2 c = search needs
 
 returns-2 : tie.Need-returns-2
 returns-2 c =
@@ -86,15 +71,15 @@ pub declared-spec : {M : Type 1} → statement M
 declared-spec =
     tie.close
     (tie.spec
-    declaration-at-requires
-    enum-known-size
+    (λ c κs. search needs)
+    (λ c. search needs)
     fits-requires
     returns
-    cast-entered
+    (λ c. search needs)
     cast-entered-2
     entered-requires
-    enum-told
-    enum-told-2
+    (λ c. search needs)
+    (λ c. search needs)
     returns-2
     returns-3
     returns-4)

@@ -9,15 +9,6 @@ use Rattle.text.proofs.ProblemPlaces.{declaring-input, declaring-output
 use Rattle.text.proofs.problem_line.declaring_line.Statement.{statement}
 use Rattle.text.proofs.problem_line.declaring_line.Tie as tie
 
-slice-aggregate-begins-at : tie.Need-slice-aggregate-begins-at
-slice-aggregate-begins-at c = search needs
-
-begins-at-requires : tie.Need-begins-at-requires
-begins-at-requires c κs = search needs
-
-add-input-line : tie.Need-add-input-line
-add-input-line c = search needs
-
 input-line-requires : tie.Need-input-line-requires
 input-line-requires c κs =
     let entry = c .before .before .before .before in
@@ -31,9 +22,6 @@ returns c =
     let w = word-found (a .text .now) (a .at) (bytes "input=") (entry .pre .0) (sym (c .before .before .begins-at .ensures) ∙ c .before .if1 .taken) in
     declaring-input (a .text .now) (a .at) (a .progress) (c .input-line .result) w (c .input-line .ensures)
 
-output-line-requires : tie.Need-output-line-requires
-output-line-requires c κs = search needs
-
 returns-2 : tie.Need-returns-2
 returns-2 c =
     let a = c .before .before .before .before .before .args in
@@ -44,10 +32,10 @@ pub declaring-line-spec : {M : Type 1} → statement M
 declaring-line-spec =
     tie.close
     (tie.spec
-    slice-aggregate-begins-at
-    begins-at-requires
-    add-input-line
+    (λ c. search needs)
+    (λ c κs. search needs)
+    (λ c. search needs)
     input-line-requires
     returns
-    output-line-requires
+    (λ c κs. search needs)
     returns-2)

@@ -16,15 +16,6 @@ number c =
     let a = c .before .before .before .before .args in
     subst (ToldLast readDomain (a .text .now) (a .at)) (c .next .given .1) (c .before .before .domain-at .ensures)
 
-domain-at-requires : tie.Need-domain-at-requires
-domain-at-requires c κs = search needs
-
-enum-known-next : tie.Need-enum-known-next
-enum-known-next c = search needs
-
-failed-requires : tie.Need-failed-requires
-failed-requires c κs = search needs
-
 returns : tie.Need-returns
 returns c =
     let s = c .before .before .before in
@@ -32,27 +23,12 @@ returns c =
     rw (c .failed .ensures)
     (domain-below (a .text .now) (a .at) (a .progress) (s .next .given .0 .1 .0) (s .next .given .0 .0) (number s) (c .before .if1 .taken))
 
-failed-requires-2 : tie.Need-failed-requires-2
-failed-requires-2 c κs = search needs
-
 returns-2 : tie.Need-returns-2
 returns-2 c =
     let s = c .before .before .before .before in
     let a = s .before .before .before .before .args in
     rw (c .failed2 .ensures)
     (domain-above (a .text .now) (a .at) (a .progress) (s .next .given .0 .1 .0) (s .next .given .0 .0) (number s) (c .before .if2 .taken))
-
-enum-told : tie.Need-enum-told
-enum-told c = search needs
-
-failed-requires-3 : tie.Need-failed-requires-3
-failed-requires-3 c κs = search needs
-
-enum-told-2 : tie.Need-enum-told-2
-enum-told-2 c = search needs
-
-failed-requires-4 : tie.Need-failed-requires-4
-failed-requires-4 c κs = search needs
 
 returns-3 : tie.Need-returns-3
 returns-3 c =
@@ -80,16 +56,16 @@ pub domain-line-spec : {M : Type 1} → statement M
 domain-line-spec =
     tie.close
     (tie.spec
-    domain-at-requires
-    enum-known-next
-    failed-requires
+    (λ c κs. search needs)
+    (λ c. search needs)
+    (λ c κs. search needs)
     returns
-    failed-requires-2
+    (λ c κs. search needs)
     returns-2
-    enum-told
-    failed-requires-3
-    enum-told-2
-    failed-requires-4
+    (λ c. search needs)
+    (λ c κs. search needs)
+    (λ c. search needs)
+    (λ c κs. search needs)
     returns-3
     returns-4
     returns-5)

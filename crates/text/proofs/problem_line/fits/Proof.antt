@@ -20,9 +20,6 @@ returns-3 c =
     let a = c .before .before .before .before .before .args in
     fits-count (a .text .now) (a .table) (a .start) (a .size) (a .arity) (c .before .before .before .before .before .pre) (c .if3 .taken)
 
-find-requires : tie.Need-find-requires
-find-requires c κs = search needs
-
 returns-4 : tie.Need-returns-4
 returns-4 c =
     let third = c .before .before in
@@ -32,4 +29,4 @@ returns-4 c =
     (third .before .before .before .if1 .left) (third .before .before .if2 .left) (third .if3 .left) (c .before .find .result) (c .before .find .ensures)
 
 pub fits-spec : {M : Type 1} → statement M
-fits-spec = tie.close (tie.spec returns returns-2 returns-3 find-requires returns-4)
+fits-spec = tie.close (tie.spec returns returns-2 returns-3 (λ c κs. search needs) returns-4)

@@ -5,12 +5,6 @@ use Rattle.text.proofs.ProblemPlaces.{input-failed, input-line}
 use Rattle.text.proofs.problem_line.input_line.Statement.{statement}
 use Rattle.text.proofs.problem_line.input_line.Tie as tie
 
-declared-requires : tie.Need-declared-requires
-declared-requires c κs = search needs
-
-failed-requires : tie.Need-failed-requires
-failed-requires c κs = search needs
-
 returns : tie.Need-returns
 returns c =
     let d = c .before .before .before in
@@ -25,4 +19,4 @@ returns-2 c =
     input-line (a .text .now) (a .at) (a .progress) (d .declared .result) (d .declared .ensures) (c .before .if1 .left) (entry .pre .2)
 
 pub input-line-spec : {M : Type 1} → statement M
-input-line-spec = tie.close (tie.spec declared-requires failed-requires returns returns-2)
+input-line-spec = tie.close (tie.spec (λ c κs. search needs) (λ c κs. search needs) returns returns-2)

@@ -20,29 +20,14 @@ word c =
     word-found (entry .args .text .now) (entry .args .at) (bytes "output=") (entry .pre .0)
     (sym (c .before .before .begins-at .ensures) ∙ not-false _ (c .before .if1 .left))
 
-slice-aggregate-begins-at : tie.Need-slice-aggregate-begins-at
-slice-aggregate-begins-at c = search needs
-
-begins-at-requires : tie.Need-begins-at-requires
-begins-at-requires c κs = search needs
-
-failed-requires : tie.Need-failed-requires
-failed-requires c κs = search needs
-
 returns : tie.Need-returns
 returns c =
     let a = c .before .before .before .before .before .args in
     rw (c .failed .ensures)
     (output-missing (a .text .now) (a .at) (a .progress) (sym (c .before .before .begins-at .ensures) ∙ not-true _ (c .before .if1 .taken)))
 
-add-declared : tie.Need-add-declared
-add-declared c = search needs
-
 declared-requires : tie.Need-declared-requires
 declared-requires c κs = omega (arith, word c .within)
-
-failed-requires-2 : tie.Need-failed-requires-2
-failed-requires-2 c κs = search needs
 
 returns-2 : tie.Need-returns-2
 returns-2 c =
@@ -50,9 +35,6 @@ returns-2 c =
     let a = d .before .before .before .before .before .before .args in
     rw (c .failed2 .ensures)
     (output-failed (a .text .now) (a .at) (a .progress) (word (d .before)) (d .declared .result) (d .declared .ensures) (c .before .if2 .taken))
-
-add-table : tie.Need-add-table
-add-table c = search needs
 
 returns-3 : tie.Need-returns-3
 returns-3 c =
@@ -64,13 +46,13 @@ pub output-line-spec : {M : Type 1} → statement M
 output-line-spec =
     tie.close
     (tie.spec
-    slice-aggregate-begins-at
-    begins-at-requires
-    failed-requires
+    (λ c. search needs)
+    (λ c κs. search needs)
+    (λ c κs. search needs)
     returns
-    add-declared
+    (λ c. search needs)
     declared-requires
-    failed-requires-2
+    (λ c κs. search needs)
     returns-2
-    add-table
+    (λ c. search needs)
     returns-3)

@@ -30,9 +30,6 @@ line-read c e =
     subst (λ (n : ℕ). ToldPart (problemLine (partIn (a .text .now) (l .progress) (l .rows))) (a .text .now) (l .at) (c .line-at .last .1 .1 .1 .0) n
     (r .next) (r .progress)) e (c .line-at .ensures)
 
-beginning-requires : tie.Need-beginning-requires Inv-loop μ-loop
-beginning-requires c κs = search needs
-
 loop-holds : tie.Need-loop-holds Inv-loop μ-loop
 loop-holds c =
     let a = c .before .before .before .args in
@@ -79,9 +76,6 @@ loop-again c =
       read .line-at .kept .1 .1 .1 .0 ∙ l .inv .1,
     )
 
-ended-requires : tie.Need-ended-requires Inv-loop μ-loop
-ended-requires c κs = search needs
-
 same-length-2 : tie.Need-same-length-2 Inv-loop μ-loop
 same-length-2 c = c .before .before .before .loop .inv .1
 
@@ -97,7 +91,7 @@ read-problem-spec =
     (tie.spec
     Inv-loop
     μ-loop
-    beginning-requires
+    (λ c κs. search needs)
     loop-holds
     line-at-requires
     same-length
@@ -105,6 +99,6 @@ read-problem-spec =
     add-line
     loop-less
     loop-again
-    ended-requires
+    (λ c κs. search needs)
     same-length-2
     returns-2)

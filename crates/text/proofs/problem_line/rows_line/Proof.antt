@@ -24,18 +24,12 @@ rows-told c e =
     (ToldRowsRead (p .table .domain) (p .total) (entry .result) (p .used) (a .rows .now) (c .rows-at .last .1 .1 .1 .1 .1 .0) (a .text .now) (a .at))
     e (c .rows-at .ensures))
 
-entry-requires : tie.Need-entry-requires
-entry-requires c κs = search needs
-
 cast-arity : tie.Need-cast-arity
 cast-arity c =
     let start = c .before .before .before .before .before in
     let a = start .args in
     let h = awaited-arity (a .text .now) (a .at) (a .progress) (a .rows .now) (start .pre .1) (start .pre .2) in
     omega (arith, c .entry .ensures)
-
-cast-used : tie.Need-cast-used
-cast-used c = search needs
 
 rows-at-requires : tie.Need-rows-at-requires
 rows-at-requires c κs =
@@ -45,15 +39,6 @@ rows-at-requires c κs =
     let h = awaited-arity (a .text .now) (a .at) (a .progress) (a .rows .now) s (start .pre .2) in
     let k = awaited-room (a .text .now) (a .at) (a .progress) (a .rows .now) s (start .pre .2) in
     (start .pre .0, omega (arith, c .before .before .entry .ensures), s .small, s .room, omega arith)
-
-enum-known-number : tie.Need-enum-known-number
-enum-known-number c = search needs
-
-failed-requires : tie.Need-failed-requires
-failed-requires c κs = search needs
-
-enum-known-next : tie.Need-enum-known-next
-enum-known-next c = search needs
 
 with-input-requires : tie.Need-with-input-requires
 with-input-requires c κs =
@@ -66,9 +51,6 @@ with-input-requires c κs =
     (c .before .next .given .0 .0) (c .before .next .given .0 .1 .0) (rows-told read (c .before .next .given .1)) in
     (k .0, k .1, omega (arith, k .2), s .room, omega (arith, n))
 
-same-length : tie.Need-same-length
-same-length c = search needs
-
 returns : tie.Need-returns
 returns c =
     let read = c .before .before .before .before .before .before in
@@ -77,9 +59,6 @@ returns c =
     rw (c .failed .ensures)
     (rows-failed (a .text .now) (a .at) (a .progress) (a .rows .now) (start .pre .1) (start .pre .2) (read .rows-at .last .1 .1 .1 .1 .1 .0)
     (c .before .before .number .given .0 .0) (rows-told read (c .before .before .number .given .1)))
-
-same-length-2 : tie.Need-same-length-2
-same-length-2 c = search needs
 
 returns-2 : tie.Need-returns-2
 returns-2 c =
@@ -95,15 +74,15 @@ pub rows-line-spec : {M : Type 1} → statement M
 rows-line-spec =
     tie.close
     (tie.spec
-    entry-requires
+    (λ c κs. search needs)
     cast-arity
-    cast-used
+    (λ c. search needs)
     rows-at-requires
-    enum-known-number
-    failed-requires
-    enum-known-next
+    (λ c. search needs)
+    (λ c κs. search needs)
+    (λ c. search needs)
     with-input-requires
-    same-length
+    (λ c. search needs)
     returns
-    same-length-2
+    (λ c. search needs)
     returns-2)

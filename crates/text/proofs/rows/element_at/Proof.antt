@@ -1,26 +1,11 @@
 -- `rows::element_at` reads a number and adds it to a row; one too large to be told is no element.
 -- Assumes nothing.
 use borrow.Author.Needs.{needs}
-use mathlib.Core.Path.{_≡_, subst}
+use mathlib.Core.Path.{subst}
 use Rattle.text.specs.memory.Numbers.{ToldNumber}
 use Rattle.text.proofs.RowPlaces.{element-small, element-large}
 use Rattle.text.proofs.rows.element_at.Statement.{statement}
 use Rattle.text.proofs.rows.element_at.Tie as tie
-
-number-at-requires : tie.Need-number-at-requires
-number-at-requires c κs = search needs
-
-enum-known-next : tie.Need-enum-known-next
-enum-known-next c = search needs
-
-extended-requires : tie.Need-extended-requires
-extended-requires c κs = search needs
-
-enum-known-next-2 : tie.Need-enum-known-next-2
-enum-known-next-2 c = search needs
-
-enum-told : tie.Need-enum-told
-enum-told c = search needs
 
 returns : tie.Need-returns
 returns c =
@@ -43,11 +28,11 @@ pub element-at-spec : {M : Type 1} → statement M
 element-at-spec =
     tie.close
     (tie.spec
-    number-at-requires
-    enum-known-next
-    extended-requires
-    enum-known-next-2
-    enum-told
+    (λ c κs. search needs)
+    (λ c. search needs)
+    (λ c κs. search needs)
+    (λ c. search needs)
+    (λ c. search needs)
     returns
     returns-2
     returns-3)

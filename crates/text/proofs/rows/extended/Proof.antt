@@ -2,14 +2,11 @@
 -- Assumes nothing.
 use borrow.Author.Needs.{needs}
 use native.Mathlib.Omega.{arith}
-use mathlib.Core.Path.{_≡_, subst}
+use mathlib.Core.Path.{subst}
 use Rattle.text.specs.memory.Rows.{RowBounded}
 use Rattle.text.proofs.RowsKept.{row-below, row-above, row-unfit, row-long, row-more}
 use Rattle.text.proofs.rows.extended.Statement.{statement}
 use Rattle.text.proofs.rows.extended.Tie as tie
-
-enum-known-row : tie.Need-enum-known-row
-enum-known-row c = search needs
 
 returns : tie.Need-returns
 returns c =
@@ -26,12 +23,6 @@ returns-3 c =
     let a = c .before .before .before .before .before .before .args in
     row-above (a .domain) (a .v) (a .row) (c .if3 .taken)
 
-add-t9 : tie.Need-add-t9
-add-t9 c = search needs
-
-placed-at-requires : tie.Need-placed-at-requires
-placed-at-requires c κs = search needs
-
 add-t11 : tie.Need-add-t11
 add-t11 c =
     let b = subst RowBounded (c .before .before .before .before .before .row .given .1) (c .before .before .before .before .before .before .before .pre .1) in
@@ -46,9 +37,6 @@ add-t13 : tie.Need-add-t13
 add-t13 c =
     let b = subst RowBounded (c .before .before .before .before .before .row .given .1) (c .before .before .before .before .before .before .before .pre .1) in
     omega arith
-
-enum-told : tie.Need-enum-told
-enum-told c = search needs
 
 returns-4 : tie.Need-returns-4
 returns-4 c =
@@ -66,15 +54,15 @@ pub extended-spec : {M : Type 1} → statement M
 extended-spec =
     tie.close
     (tie.spec
-    enum-known-row
+    (λ c. search needs)
     returns
     returns-2
     returns-3
-    add-t9
-    placed-at-requires
+    (λ c. search needs)
+    (λ c κs. search needs)
     add-t11
     mul-t12
     add-t13
-    enum-told
+    (λ c. search needs)
     returns-4
     returns-5)

@@ -2,23 +2,11 @@
 -- Assumes nothing.
 use borrow.Author.Needs.{needs}
 use native.Mathlib.Omega.{arith}
-use mathlib.Core.Path.{_≡_, subst}
+use mathlib.Core.Path.{subst}
 use Rattle.text.specs.memory.Rows.{RowsBounded}
 use Rattle.text.proofs.RowsKept.{rows-unfit, rows-unfit-row, rows-size, rows-order, rows-full, rows-more}
 use Rattle.text.proofs.rows.kept.Statement.{statement}
 use Rattle.text.proofs.rows.kept.Tie as tie
-
-enum-told : tie.Need-enum-told
-enum-told c = search needs
-
-enum-known-before : tie.Need-enum-known-before
-enum-known-before c = search needs
-
-enum-told-2 : tie.Need-enum-told-2
-enum-told-2 c = search needs
-
-enum-known-row : tie.Need-enum-known-row
-enum-known-row c = search needs
 
 returns : tie.Need-returns
 returns c =
@@ -46,16 +34,10 @@ returns-3 c =
     (rows-full (a .total) (a .arity) (a .to) (a .rows .now) (a .rows .now) (c .before .before .before .before .before .before .before .before .before .before .pre .1) (c .before .before .before .before .before .before .before .before2 .given .0 .0) (c .before .before .before .before .before .before .before .before2 .given .0 .1 .0)
     (c .before .before .before .before .row .given .0 .0) (c .before .before .before .before .row .given .0 .1 .0) (c .before .before .before .before .row .given .0 .1 .1 .0) (c .before .before .if1 .left) (c .if3 .taken))
 
-cast-put : tie.Need-cast-put
-cast-put c = search needs
-
 add-put : tie.Need-add-put
 add-put c =
     let b = subst RowsBounded (c .before .before .before .before .before .before .before .before .before2 .given .1) (c .before .before .before .before .before .before .before .before .before .before .before .pre .0) in
     omega arith
-
-put-requires : tie.Need-put-requires
-put-requires c κs = search needs
 
 add-t15 : tie.Need-add-t15
 add-t15 c =
@@ -73,9 +55,6 @@ returns-5 c =
     rw (c .before .before .before .before2 .given .1, c .enum-told2 .given .1)
     (rows-unfit-row (a .total) (a .arity) (a .to) (a .rows .now) (a .rows .now) (c .before .before .before .before .before .before .pre .1) (c .before .before .before .before2 .given .0 .0) (c .before .before .before .before2 .given .0 .1 .0))
 
-same-length : tie.Need-same-length
-same-length c = search needs
-
 returns-6 : tie.Need-returns-6
 returns-6 c =
     let a = c .before .before .before .before .before .before .before .before .before .before .before .before .before .before .args in
@@ -87,19 +66,19 @@ pub kept-spec : {M : Type 1} → statement M
 kept-spec =
     tie.close
     (tie.spec
-    enum-told
-    enum-known-before
-    enum-told-2
-    enum-known-row
+    (λ c. search needs)
+    (λ c. search needs)
+    (λ c. search needs)
+    (λ c. search needs)
     returns
     returns-2
     add-if3
     returns-3
-    cast-put
+    (λ c. search needs)
     add-put
-    put-requires
+    (λ c κs. search needs)
     add-t15
     returns-4
     returns-5
-    same-length
+    (λ c. search needs)
     returns-6)

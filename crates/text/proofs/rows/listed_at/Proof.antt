@@ -2,35 +2,17 @@
 -- Assumes nothing.
 use borrow.Author.Needs.{needs}
 use native.Mathlib.Omega.{arith}
-use mathlib.Core.Path.{_≡_, sym, subst, _∙_}
+use mathlib.Core.Path.{sym, subst, _∙_}
 use Rattle.text.specs.memory.Rows.{ToldTuples}
 use Rattle.text.proofs.FoundBytes.{byte-inside}
 use Rattle.text.proofs.RelationPlaces.{listed-none, listed-refused, listed-closed, listed-open}
 use Rattle.text.proofs.rows.listed_at.Statement.{statement}
 use Rattle.text.proofs.rows.listed_at.Tie as tie
 
-peek-requires : tie.Need-peek-requires
-peek-requires c κs = search needs
-
-add-t12 : tie.Need-add-t12
-add-t12 c = search needs
-
 returns : tie.Need-returns
 returns c =
     let a = c .before .before .before .before .args in
     listed-none (a .domain) (a .total) (a .arity) (a .to) (a .rows .now) (a .text .now) (a .at) (c .before .before .before .before .pre .3) (c .before .before .before .before .pre .0) (sym (c .before .peek .ensures) ∙ c .if1 .taken)
-
-tuples-at-requires : tie.Need-tuples-at-requires
-tuples-at-requires c κs = search needs
-
-enum-known-next : tie.Need-enum-known-next
-enum-known-next c = search needs
-
-peek-requires-2 : tie.Need-peek-requires-2
-peek-requires-2 c κs = search needs
-
-same-length : tie.Need-same-length
-same-length c = search needs
 
 returns-2 : tie.Need-returns-2
 returns-2 c =
@@ -46,12 +28,6 @@ add-t20 c =
     let h = byte-inside (a .text .now) (c .before .before .before .next .given .0 .0) 10 (omega arith) (sym (c .before .peek2 .ensures) ∙ c .if2 .left) in
     omega arith
 
-enum-told : tie.Need-enum-told
-enum-told c = search needs
-
-same-length-2 : tie.Need-same-length-2
-same-length-2 c = search needs
-
 returns-3 : tie.Need-returns-3
 returns-3 c =
     let a = c .before .before .before .before .before .before .before .before .before .before .before .before .before .args in
@@ -59,9 +35,6 @@ returns-3 c =
     listed-closed (a .domain) (a .total) (a .arity) (a .to) (a .rows .now) (a .text .now) (a .at) (λ e. c .before .before .before .before .before .before .before .before .before .if1 .left (c .before .before .before .before .before .before .before .before .before .before .peek .ensures ∙ e)) new
     (c .before .before .before .next .given .0 .1 .0) (c .before .before .before .next .given .0 .0)
     (subst (ToldTuples (a .domain) (a .total) (a .arity) (a .to) (a .rows .now) new (a .text .now) (a .at)) (c .before .before .before .next .given .1) (c .before .before .before .before .before .before .before .tuples-at .ensures)) (sym (c .before .peek2 .ensures) ∙ c .if2 .left)
-
-same-length-3 : tie.Need-same-length-3
-same-length-3 c = search needs
 
 returns-4 : tie.Need-returns-4
 returns-4 c =
@@ -74,17 +47,17 @@ pub listed-at-spec : {M : Type 1} → statement M
 listed-at-spec =
     tie.close
     (tie.spec
-    peek-requires
-    add-t12
+    (λ c κs. search needs)
+    (λ c. search needs)
     returns
-    tuples-at-requires
-    enum-known-next
-    peek-requires-2
-    same-length
+    (λ c κs. search needs)
+    (λ c. search needs)
+    (λ c κs. search needs)
+    (λ c. search needs)
     returns-2
     add-t20
-    enum-told
-    same-length-2
+    (λ c. search needs)
+    (λ c. search needs)
     returns-3
-    same-length-3
+    (λ c. search needs)
     returns-4)

@@ -2,16 +2,10 @@
 -- Assumes nothing.
 use borrow.Author.Needs.{needs}
 use native.Mathlib.Omega.{arith}
-use mathlib.Core.Path.{_≡_, refl}
+use mathlib.Core.Path.{_≡_}
 use Rattle.text.specs.memory.Table.{placed}
 use Rattle.text.proofs.rows.placed_at.Statement.{statement}
 use Rattle.text.proofs.rows.placed_at.Tie as tie
-
-mul-result : tie.Need-mul-result
-mul-result c = search needs
-
-mul-result-2 : tie.Need-mul-result-2
-mul-result-2 c = search needs
 
 returns : tie.Need-returns
 unfolding placed
@@ -28,4 +22,4 @@ returns-3 c =
     (rw e (omega arith), omega arith)
 
 pub placed-at-spec : {M : Type 1} → statement M
-placed-at-spec = tie.close (tie.spec mul-result mul-result-2 returns returns-2 returns-3)
+placed-at-spec = tie.close (tie.spec (λ c. search needs) (λ c. search needs) returns returns-2 returns-3)

@@ -4,19 +4,10 @@ use borrow.Author.Needs.{needs}
 use Rattle.text.proofs.rows.rows_at.Statement.{statement}
 use Rattle.text.proofs.rows.rows_at.Tie as tie
 
-relation-at-requires : tie.Need-relation-at-requires
-relation-at-requires c κs = search needs
-
-rows-of-requires : tie.Need-rows-of-requires
-rows-of-requires c κs = search needs
-
-same-length : tie.Need-same-length
-same-length c = search needs
-
 returns : tie.Need-returns
 returns c =
     let a = c .before .before .before .before .before .before .before .before .before .before .args in
     c .before .before .rows-of .ensures .told (a .domain) (a .total) (a .rows .now) (a .text .now) (a .at) (c .before .before .before .before .before .before .before .before .before .before .pre .3) (c .before .before .before .before .before .before .relation-at .ensures)
 
 pub rows-at-spec : {M : Type 1} → statement M
-rows-at-spec = tie.close (tie.spec relation-at-requires rows-of-requires same-length returns)
+rows-at-spec = tie.close (tie.spec (λ c κs. search needs) (λ c κs. search needs) (λ c. search needs) returns)

@@ -1,46 +1,24 @@
 -- `rows::rows_of` judges a line's kind by the arity, and takes the rows that were kept.
 -- Assumes nothing.
 use borrow.Author.Needs.{needs}
-use mathlib.Core.Path.{_≡_}
 use Rattle.text.proofs.RelationPlaces.{given-truth-unsuited, given-true, given-false, given-list-unsuited, given-unfit, given-fitting, given-malformed}
 use Rattle.text.proofs.rows.rows_of.Statement.{statement}
 use Rattle.text.proofs.rows.rows_of.Tie as tie
-
-enum-known-relation : tie.Need-enum-known-relation
-enum-known-relation c = search needs
 
 returns : tie.Need-returns
 returns c =
     let a = c .before .before .before .before .before .args in
     rw (c .before .before .relation .given .1) (given-truth-unsuited (a .arity) (a .to) (a .rows .now) (c .before .before .relation .given .0 .0) (c .before .before .relation .given .0 .1 .0) (c .if1 .taken))
 
-put-requires : tie.Need-put-requires
-put-requires c κs = search needs
-
-same-length : tie.Need-same-length
-same-length c = search needs
-
 returns-2 : tie.Need-returns-2
 returns-2 c =
     let a = c .before .before .before .before .before .before .before .before .before .before .args in
     rw (c .before .before .before .before .before .before .before .relation .given .1, c .before .before .before .before .if2 .taken) (given-true (a .arity) (a .to) (a .rows .now) (c .before .before .before .before .before .before .before .relation .given .0 .0) (c .before .before .put .last .0) (c .before .before .before .before .before .if1 .left) (c .before .before .put .ensures))
 
-enum-known-relation-2 : tie.Need-enum-known-relation-2
-enum-known-relation-2 c = search needs
-
 returns-3 : tie.Need-returns-3
 returns-3 c =
     let a = c .before .before .before .before .before .args in
     rw (c .before .before .relation2 .given .1) (given-list-unsuited (a .arity) (a .to) (a .rows .now) (c .before .before .relation2 .given .0 .0) (c .before .before .relation2 .given .0 .1 .0) (c .if3 .taken))
-
-enum-known-list : tie.Need-enum-known-list
-enum-known-list c = search needs
-
-enum-told : tie.Need-enum-told
-enum-told c = search needs
-
-enum-told-2 : tie.Need-enum-told-2
-enum-told-2 c = search needs
 
 returns-4 : tie.Need-returns-4
 returns-4 c =
@@ -66,16 +44,16 @@ pub rows-of-spec : {M : Type 1} → statement M
 rows-of-spec =
     tie.close
     (tie.spec
-    enum-known-relation
+    (λ c. search needs)
     returns
-    put-requires
-    same-length
+    (λ c κs. search needs)
+    (λ c. search needs)
     returns-2
-    enum-known-relation-2
+    (λ c. search needs)
     returns-3
-    enum-known-list
-    enum-told
-    enum-told-2
+    (λ c. search needs)
+    (λ c. search needs)
+    (λ c. search needs)
     returns-4
     returns-5
     returns-6

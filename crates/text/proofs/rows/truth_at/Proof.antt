@@ -2,14 +2,11 @@
 -- Assumes nothing.
 use borrow.Author.Needs.{needs}
 use native.Mathlib.Omega.{arith}
-use mathlib.Core.Path.{_≡_, sym, _∙_}
+use mathlib.Core.Path.{sym, _∙_}
 use Rattle.text.proofs.FoundBytes.{byte-inside}
 use Rattle.text.proofs.RelationPlaces.{truth-closed, truth-open}
 use Rattle.text.proofs.rows.truth_at.Statement.{statement}
 use Rattle.text.proofs.rows.truth_at.Tie as tie
-
-peek-requires : tie.Need-peek-requires
-peek-requires c κs = search needs
 
 returns : tie.Need-returns
 returns c =
@@ -28,4 +25,4 @@ returns-2 c =
     truth-closed (a .value) (a .text .now) (a .at) (sym (c .before .peek .ensures) ∙ c .if1 .left)
 
 pub truth-at-spec : {M : Type 1} → statement M
-truth-at-spec = tie.close (tie.spec peek-requires returns add-t6 returns-2)
+truth-at-spec = tie.close (tie.spec (λ c κs. search needs) returns add-t6 returns-2)

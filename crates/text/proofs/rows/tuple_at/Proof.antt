@@ -3,7 +3,7 @@
 use borrow.Author.Needs.{needs}
 use native.Mathlib.Omega.{arith}
 use Prim.Native.Nat.{_-_}
-use mathlib.Core.Path.{_≡_, sym, subst, _∙_}
+use mathlib.Core.Path.{sym, subst, _∙_}
 use lib.ListN.{length}
 use Rattle.text.specs.memory.Rows.{ToldElement}
 use Rattle.text.proofs.FoundBytes.{byte-inside}
@@ -28,21 +28,12 @@ element-at-requires c κs =
     let l = c .loop in
     (omega (arith, l .inv .listing .within), c .before .before .pre .1, tuple-bounded (a .domain) (a .text .now) (a .at) (l .row) (l .i) (l .inv) (c .before .before .pre .1))
 
-enum-told : tie.Need-enum-told Inv-loop μ-loop
-enum-told c = search needs
-
 returns : tie.Need-returns Inv-loop μ-loop
 returns c =
     let a = c .before .before .before .before .before .args in
     let l = c .before .before .before .loop in
     tuple-refused (a .domain) (a .text .now) (a .at) (l .row) (l .i) (l .inv)
     (subst (ToldElement (a .domain) (l .row) (a .text .now) (l .i)) (c .enum-told .given .1) (c .before .before .element-at .ensures))
-
-enum-known-next : tie.Need-enum-known-next Inv-loop μ-loop
-enum-known-next c = search needs
-
-peek-requires : tie.Need-peek-requires Inv-loop μ-loop
-peek-requires c κs = search needs
 
 returns-2 : tie.Need-returns-2 Inv-loop μ-loop
 returns-2 c =
@@ -80,10 +71,10 @@ tuple-at-spec =
     μ-loop
     loop-holds
     element-at-requires
-    enum-told
+    (λ c. search needs)
     returns
-    enum-known-next
-    peek-requires
+    (λ c. search needs)
+    (λ c κs. search needs)
     returns-2
     add-i
     loop-less

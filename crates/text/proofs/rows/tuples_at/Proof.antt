@@ -25,9 +25,6 @@ loop-holds c =
 tuple-at-requires : tie.Need-tuple-at-requires Inv-loop μ-loop
 tuple-at-requires c κs = (omega (arith, c .loop .inv .0 .listing .within), c .before .before .before .pre .2)
 
-enum-told : tie.Need-enum-told Inv-loop μ-loop
-enum-told c = search needs
-
 same-length : tie.Need-same-length Inv-loop μ-loop
 same-length c = c .before .before .before .loop .inv .1
 
@@ -38,9 +35,6 @@ returns c =
     tuples-refused (a .domain) (a .total) (a .arity) (a .to) (a .rows .now) (a .text .now) (a .at) (l .rows) (l .before) (l .i) (l .inv .0) (l .rows)
     (subst (ToldTuple (a .domain) (a .text .now) (l .i)) (c .enum-told .given .1) (c .before .before .tuple-at .ensures))
 
-enum-known-next : tie.Need-enum-known-next Inv-loop μ-loop
-enum-known-next c = search needs
-
 kept-requires : tie.Need-kept-requires Inv-loop μ-loop
 kept-requires c κs =
     let a = c .before .before .before .before .before .before .before .before .args in
@@ -50,9 +44,6 @@ kept-requires c κs =
       c .before .before .before .before .before .before .before .before .pre .3,
       c .before .before .before .before .before .before .before .before .pre .4,
     )
-
-peek-requires : tie.Need-peek-requires Inv-loop μ-loop
-peek-requires c κs = search needs
 
 same-length-2 : tie.Need-same-length-2 Inv-loop μ-loop
 same-length-2 c = c .before .before .before .before .kept .kept .1 .1 .1 .1 .0 ∙ c .before .before .before .before .before .before .before .before .before .before .loop .inv .1
@@ -97,12 +88,12 @@ tuples-at-spec =
     μ-loop
     loop-holds
     tuple-at-requires
-    enum-told
+    (λ c. search needs)
     same-length
     returns
-    enum-known-next
+    (λ c. search needs)
     kept-requires
-    peek-requires
+    (λ c κs. search needs)
     same-length-2
     returns-2
     add-i

@@ -8,26 +8,11 @@ use Rattle.text.proofs.LinePlaces.{names-none, names-told}
 use Rattle.text.proofs.rule_line.final_names_at.Statement.{statement}
 use Rattle.text.proofs.rule_line.final_names_at.Tie as tie
 
-slice-aggregate-word-end : tie.Need-slice-aggregate-word-end
-slice-aggregate-word-end c = search needs
-
-word-end-requires : tie.Need-word-end-requires
-word-end-requires c κs = search needs
-
-enum-known-next : tie.Need-enum-known-next
-enum-known-next c = search needs
-
 returns : tie.Need-returns
 returns c =
     let a = c .before .before .before .before .before .before .args in
     names-none
     (subst (ToldWord (bytes "-") (a .text .now) (a .at)) (c .before .next .given .1) (c .before .before .before .word-end .ensures))
-
-enum-told : tie.Need-enum-told
-enum-told c = search needs
-
-numbers-at-requires : tie.Need-numbers-at-requires
-numbers-at-requires c κs = search needs
 
 returns-2 : tie.Need-returns-2
 returns-2 c =
@@ -39,10 +24,10 @@ pub final-names-at-spec : {M : Type 1} → statement M
 final-names-at-spec =
     tie.close
     (tie.spec
-    slice-aggregate-word-end
-    word-end-requires
-    enum-known-next
+    (λ c. search needs)
+    (λ c κs. search needs)
+    (λ c. search needs)
     returns
-    enum-told
-    numbers-at-requires
+    (λ c. search needs)
+    (λ c κs. search needs)
     returns-2)

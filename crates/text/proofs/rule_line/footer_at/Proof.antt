@@ -15,32 +15,14 @@ listed c =
     let a = c .before .before .before .before .args in
     subst (ToldNumbers readFinalNames (a .text .now) (a .at)) (c .names .given .1) (c .before .before .final-names-at .ensures)
 
-final-names-at-requires : tie.Need-final-names-at-requires
-final-names-at-requires c κs = search needs
-
-enum-known-names : tie.Need-enum-known-names
-enum-known-names c = search needs
-
-enum-told : tie.Need-enum-told
-enum-told c = search needs
-
 returns : tie.Need-returns
 returns c =
     let a = c .before .before .before .before .args in
     footer-refused
     (subst (ToldNumbers readFinalNames (a .text .now) (a .at)) (c .enum-told .given .1) (c .before .before .final-names-at .ensures))
 
-slice-aggregate-word-end : tie.Need-slice-aggregate-word-end
-slice-aggregate-word-end c = search needs
-
 word-end-requires : tie.Need-word-end-requires
 word-end-requires c κs = listed (c .before .before) .found .within
-
-enum-known-end : tie.Need-enum-known-end
-enum-known-end c = search needs
-
-enum-told-2 : tie.Need-enum-told-2
-enum-told-2 c = search needs
 
 returns-2 : tie.Need-returns-2
 returns-2 c =
@@ -58,13 +40,13 @@ pub footer-at-spec : {M : Type 1} → statement M
 footer-at-spec =
     tie.close
     (tie.spec
-    final-names-at-requires
-    enum-known-names
-    enum-told
+    (λ c κs. search needs)
+    (λ c. search needs)
+    (λ c. search needs)
     returns
-    slice-aggregate-word-end
+    (λ c. search needs)
     word-end-requires
-    enum-known-end
-    enum-told-2
+    (λ c. search needs)
+    (λ c. search needs)
     returns-2
     returns-3)

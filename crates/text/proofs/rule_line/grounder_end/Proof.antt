@@ -17,18 +17,6 @@ marked c =
     let a = c .before .before .before .before .before .args in
     subst (ToldWord (bytes "grounder=") (a .text .now) (a .at)) (c .start .given .1) (c .before .before .word-end .ensures)
 
-slice-aggregate-word-end : tie.Need-slice-aggregate-word-end
-slice-aggregate-word-end c = search needs
-
-word-end-requires : tie.Need-word-end-requires
-word-end-requires c κs = search needs
-
-enum-known-start : tie.Need-enum-known-start
-enum-known-start c = search needs
-
-enum-told : tie.Need-enum-told
-enum-told c = search needs
-
 returns : tie.Need-returns
 returns c =
     let a = c .before .before .before .before .before .args in
@@ -54,9 +42,6 @@ returns-3 c =
     let a = c .before .before .before .before .before .before .before .before .before .args in
     grounder-long (a .text .now) (a .at) _ (marked (c .before .before .before .before)) _ (c .before .before .run-end .ensures .0) (c .if2 .taken)
 
-slice-aggregate-word-end-2 : tie.Need-slice-aggregate-word-end-2
-slice-aggregate-word-end-2 c = search needs
-
 word-end-requires-2 : tie.Need-word-end-requires-2
 word-end-requires-2 c κs = c .before .before .before .run-end .ensures .1
 
@@ -71,16 +56,16 @@ pub grounder-end-spec : {M : Type 1} → statement M
 grounder-end-spec =
     tie.close
     (tie.spec
-    slice-aggregate-word-end
-    word-end-requires
-    enum-known-start
-    enum-told
+    (λ c. search needs)
+    (λ c κs. search needs)
+    (λ c. search needs)
+    (λ c. search needs)
     returns
     run-end-requires
     sub-if1
     returns-2
     sub-if2
     returns-3
-    slice-aggregate-word-end-2
+    (λ c. search needs)
     word-end-requires-2
     returns-4)

@@ -30,29 +30,14 @@ final c =
     let a = c .before .before .before .before .args in
     subst (ToldKind (readLine (drop (a .at) (a .text .now))) (a .text .now) (a .at)) (c .next2 .given .1) (c .before .before .kind-at .ensures)
 
-kind-at-requires : tie.Need-kind-at-requires
-kind-at-requires c κs = search needs
-
-enum-known-kind : tie.Need-enum-known-kind
-enum-known-kind c = search needs
-
 position-line-at-requires : tie.Need-position-line-at-requires
 position-line-at-requires c κs = ending (c .before) .within
-
-enum-known-next : tie.Need-enum-known-next
-enum-known-next c = search needs
 
 split-at-requires : tie.Need-split-at-requires
 split-at-requires c κs = splitting (c .before) .within
 
-enum-known-next-2 : tie.Need-enum-known-next-2
-enum-known-next-2 c = search needs
-
 footer-at-requires : tie.Need-footer-at-requires
 footer-at-requires c κs = final (c .before) .within
-
-enum-told : tie.Need-enum-told
-enum-told c = search needs
 
 returns : tie.Need-returns
 returns c =
@@ -78,14 +63,14 @@ pub line-at-spec : {M : Type 1} → statement M
 line-at-spec =
     tie.close
     (tie.spec
-    kind-at-requires
-    enum-known-kind
+    (λ c κs. search needs)
+    (λ c. search needs)
     position-line-at-requires
-    enum-known-next
+    (λ c. search needs)
     split-at-requires
-    enum-known-next-2
+    (λ c. search needs)
     footer-at-requires
-    enum-told
+    (λ c. search needs)
     returns
     returns-2
     returns-3

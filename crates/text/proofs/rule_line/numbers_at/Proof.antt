@@ -28,17 +28,8 @@ loop-holds c =
     let a = c .before .args in
     numbers-first (a .least) (a .greatest) (a .text .now) (a .at) (c .before .pre .0)
 
-ranged-at-requires : tie.Need-ranged-at-requires Inv-loop μ-loop
-ranged-at-requires c κs = search needs
-
-enum-known-next : tie.Need-enum-known-next Inv-loop μ-loop
-enum-known-next c = search needs
-
 add-many : tie.Need-add-many Inv-loop μ-loop
 add-many c = let f = found (c .before) in omega (arith, f .found .within, c .before .before .before .before .loop .inv .few, f .after)
-
-peek-requires : tie.Need-peek-requires Inv-loop μ-loop
-peek-requires c κs = search needs
 
 returns : tie.Need-returns Inv-loop μ-loop
 returns c =
@@ -60,9 +51,6 @@ loop-again c =
     (found (c .before .before .before))
     (sym (c .before .peek .ensures) ∙ c .if1 .left)
 
-enum-told : tie.Need-enum-told Inv-loop μ-loop
-enum-told c = search needs
-
 returns-2 : tie.Need-returns-2 Inv-loop μ-loop
 returns-2 c =
     let a = c .before .before .before .before .before .args in
@@ -76,13 +64,13 @@ numbers-at-spec =
     Inv-loop
     μ-loop
     loop-holds
-    ranged-at-requires
-    enum-known-next
+    (λ c κs. search needs)
+    (λ c. search needs)
     add-many
-    peek-requires
+    (λ c κs. search needs)
     returns
     add-i
     loop-less
     loop-again
-    enum-told
+    (λ c. search needs)
     returns-2)

@@ -51,30 +51,12 @@ passed-4 c =
     kind-other (a .text .now) (a .at) _ _ _ (passed-3 (c .before .before .before))
     (sym (c .before .begins-at4 .ensures) ∙ c .if4 .left)
 
-slice-aggregate-begins-at : tie.Need-slice-aggregate-begins-at
-slice-aggregate-begins-at c = search needs
-
-begins-at-requires : tie.Need-begins-at-requires
-begins-at-requires c κs = search needs
-
-add-t11 : tie.Need-add-t11
-add-t11 c = search needs
-
 returns : tie.Need-returns
 unfolding lineKinds
 returns c =
     let a = c .before .before .before .before .args in
     kind-this (a .text .now) (a .at) _ _ _ refl (c .before .before .before .before .pre)
     (sym (c .before .begins-at .ensures) ∙ c .if1 .taken) (omega arith)
-
-slice-aggregate-begins-at-2 : tie.Need-slice-aggregate-begins-at-2
-slice-aggregate-begins-at-2 c = search needs
-
-begins-at-requires-2 : tie.Need-begins-at-requires-2
-begins-at-requires-2 c κs = search needs
-
-add-t16 : tie.Need-add-t16
-add-t16 c = search needs
 
 returns-2 : tie.Need-returns-2
 unfolding lineKinds
@@ -83,30 +65,12 @@ returns-2 c =
     kind-this (a .text .now) (a .at) _ _ _ (passed-1 (c .before .before .before)) (c .before .before .before .before .before .before .before .pre)
     (sym (c .before .begins-at2 .ensures) ∙ c .if2 .taken) (omega arith)
 
-slice-aggregate-begins-at-3 : tie.Need-slice-aggregate-begins-at-3
-slice-aggregate-begins-at-3 c = search needs
-
-begins-at-requires-3 : tie.Need-begins-at-requires-3
-begins-at-requires-3 c κs = search needs
-
-add-t20 : tie.Need-add-t20
-add-t20 c = search needs
-
 returns-3 : tie.Need-returns-3
 unfolding lineKinds
 returns-3 c =
     let a = c .before .before .before .before .before .before .before .before .before .before .args in
     kind-this (a .text .now) (a .at) _ _ _ (passed-2 (c .before .before .before)) (c .before .before .before .before .before .before .before .before .before .before .pre)
     (sym (c .before .begins-at3 .ensures) ∙ c .if3 .taken) (omega arith)
-
-slice-aggregate-begins-at-4 : tie.Need-slice-aggregate-begins-at-4
-slice-aggregate-begins-at-4 c = search needs
-
-begins-at-requires-4 : tie.Need-begins-at-requires-4
-begins-at-requires-4 c κs = search needs
-
-add-t24 : tie.Need-add-t24
-add-t24 c = search needs
 
 returns-4 : tie.Need-returns-4
 unfolding lineKinds
@@ -125,20 +89,20 @@ pub other-kind-at-spec : {M : Type 1} → statement M
 other-kind-at-spec =
     tie.close
     (tie.spec
-    slice-aggregate-begins-at
-    begins-at-requires
-    add-t11
+    (λ c. search needs)
+    (λ c κs. search needs)
+    (λ c. search needs)
     returns
-    slice-aggregate-begins-at-2
-    begins-at-requires-2
-    add-t16
+    (λ c. search needs)
+    (λ c κs. search needs)
+    (λ c. search needs)
     returns-2
-    slice-aggregate-begins-at-3
-    begins-at-requires-3
-    add-t20
+    (λ c. search needs)
+    (λ c κs. search needs)
+    (λ c. search needs)
     returns-3
-    slice-aggregate-begins-at-4
-    begins-at-requires-4
-    add-t24
+    (λ c. search needs)
+    (λ c κs. search needs)
+    (λ c. search needs)
     returns-4
     returns-5)

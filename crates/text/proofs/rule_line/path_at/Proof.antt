@@ -26,18 +26,6 @@ numbers c =
     let a = c .before .before .before .before .before .before .before .before .before .args in
     subst (ToldNumbers (separated 44 (readRanged 0 4095)) (a .text .now) (c .before .before .before .before .start .given .0 .0)) (c .first .given .1) (c .before .before .numbers-at .ensures)
 
-slice-aggregate-word-end : tie.Need-slice-aggregate-word-end
-slice-aggregate-word-end c = search needs
-
-word-end-requires : tie.Need-word-end-requires
-word-end-requires c κs = search needs
-
-enum-known-start : tie.Need-enum-known-start
-enum-known-start c = search needs
-
-enum-told : tie.Need-enum-told
-enum-told c = search needs
-
 returns : tie.Need-returns
 returns c =
     let a = c .before .before .before .before .before .args in
@@ -47,29 +35,14 @@ returns c =
 numbers-at-requires : tie.Need-numbers-at-requires
 numbers-at-requires c κs = (bracket (c .before) .within, omega arith)
 
-enum-known-first : tie.Need-enum-known-first
-enum-known-first c = search needs
-
-enum-told-2 : tie.Need-enum-told-2
-enum-told-2 c = search needs
-
 returns-2 : tie.Need-returns-2
 returns-2 c =
     let a = c .before .before .before .before .before .before .before .before .before .args in
     path-refused (bracket (c .before .before .before .before))
     (subst (ToldNumbers (separated 44 (readRanged 0 4095)) (a .text .now) (c .before .before .before .before .start .given .0 .0)) (c .enum-told2 .given .1) (c .before .before .numbers-at .ensures))
 
-slice-aggregate-word-end-2 : tie.Need-slice-aggregate-word-end-2
-slice-aggregate-word-end-2 c = search needs
-
 word-end-requires-2 : tie.Need-word-end-requires-2
 word-end-requires-2 c κs = numbers (c .before .before) .found .within
-
-enum-known-end : tie.Need-enum-known-end
-enum-known-end c = search needs
-
-enum-told-3 : tie.Need-enum-told-3
-enum-told-3 c = search needs
 
 returns-3 : tie.Need-returns-3
 returns-3 c =
@@ -87,18 +60,18 @@ pub path-at-spec : {M : Type 1} → statement M
 path-at-spec =
     tie.close
     (tie.spec
-    slice-aggregate-word-end
-    word-end-requires
-    enum-known-start
-    enum-told
+    (λ c. search needs)
+    (λ c κs. search needs)
+    (λ c. search needs)
+    (λ c. search needs)
     returns
     numbers-at-requires
-    enum-known-first
-    enum-told-2
+    (λ c. search needs)
+    (λ c. search needs)
     returns-2
-    slice-aggregate-word-end-2
+    (λ c. search needs)
     word-end-requires-2
-    enum-known-end
-    enum-told-3
+    (λ c. search needs)
+    (λ c. search needs)
     returns-3
     returns-4)

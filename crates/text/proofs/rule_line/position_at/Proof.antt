@@ -15,15 +15,6 @@ named c =
     let a = c .before .before .before .before .args in
     subst (ToldRanged 1 65535 (a .text .now) (a .at)) (c .name .given .1) (c .before .before .ranged-at .ensures)
 
-ranged-at-requires : tie.Need-ranged-at-requires
-ranged-at-requires c κs = search needs
-
-enum-known-name : tie.Need-enum-known-name
-enum-known-name c = search needs
-
-enum-told : tie.Need-enum-told
-enum-told c = search needs
-
 returns : tie.Need-returns
 returns c =
     let a = c .before .before .before .before .args in
@@ -32,12 +23,6 @@ returns c =
 
 path-at-requires : tie.Need-path-at-requires
 path-at-requires c κs = named (c .before) .found .within
-
-enum-known-path : tie.Need-enum-known-path
-enum-known-path c = search needs
-
-enum-told-2 : tie.Need-enum-told-2
-enum-told-2 c = search needs
 
 returns-2 : tie.Need-returns-2
 returns-2 c =
@@ -55,12 +40,12 @@ pub position-at-spec : {M : Type 1} → statement M
 position-at-spec =
     tie.close
     (tie.spec
-    ranged-at-requires
-    enum-known-name
-    enum-told
+    (λ c κs. search needs)
+    (λ c. search needs)
+    (λ c. search needs)
     returns
     path-at-requires
-    enum-known-path
-    enum-told-2
+    (λ c. search needs)
+    (λ c. search needs)
     returns-2
     returns-3)

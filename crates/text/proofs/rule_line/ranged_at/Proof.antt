@@ -14,12 +14,6 @@ small c =
     let a = c .before .before .before .before .args in
     subst (ToldNumber (a .text .now) (a .at)) (c .next .given .1) (c .before .before .number-at .ensures)
 
-number-at-requires : tie.Need-number-at-requires
-number-at-requires c κs = search needs
-
-enum-known-next : tie.Need-enum-known-next
-enum-known-next c = search needs
-
 returns : tie.Need-returns
 returns c =
     let a = c .before .before .before .before .before .before .args in
@@ -29,12 +23,6 @@ returns-2 : tie.Need-returns-2
 returns-2 c =
     let a = c .before .before .before .before .before .before .before .args in
     ranged-above (a .least) (a .greatest) (a .text .now) (a .at) (small (c .before .before .before)) (c .if2 .taken)
-
-enum-told : tie.Need-enum-told
-enum-told c = search needs
-
-enum-told-2 : tie.Need-enum-told-2
-enum-told-2 c = search needs
 
 returns-3 : tie.Need-returns-3
 returns-3 c =
@@ -58,12 +46,12 @@ pub ranged-at-spec : {M : Type 1} → statement M
 ranged-at-spec =
     tie.close
     (tie.spec
-    number-at-requires
-    enum-known-next
+    (λ c κs. search needs)
+    (λ c. search needs)
     returns
     returns-2
-    enum-told
-    enum-told-2
+    (λ c. search needs)
+    (λ c. search needs)
     returns-3
     returns-4
     returns-5)

@@ -33,32 +33,14 @@ listed c =
     let a = c .before .before .before .before .before .before .before .before .before .before .before .before .before .args in
     subst (ToldNumbers (separated 44 (readRanged 1 65535)) (a .text .now) (c .before .before .before .before .start .given .0 .0)) (c .names .given .1) (c .before .before .numbers-at .ensures)
 
-position-at-requires : tie.Need-position-at-requires
-position-at-requires c κs = search needs
-
-enum-known-name : tie.Need-enum-known-name
-enum-known-name c = search needs
-
-enum-told : tie.Need-enum-told
-enum-told c = search needs
-
 returns : tie.Need-returns
 returns c =
     let a = c .before .before .before .before .args in
     split-refused
     (subst (ToldPosition (a .text .now) (a .at)) (c .enum-told .given .1) (c .before .before .position-at .ensures))
 
-slice-aggregate-word-end : tie.Need-slice-aggregate-word-end
-slice-aggregate-word-end c = search needs
-
 word-end-requires : tie.Need-word-end-requires
 word-end-requires c κs = position (c .before .before) .found .within
-
-enum-known-start : tie.Need-enum-known-start
-enum-known-start c = search needs
-
-enum-told-2 : tie.Need-enum-told-2
-enum-told-2 c = search needs
 
 returns-2 : tie.Need-returns-2
 returns-2 c =
@@ -69,29 +51,14 @@ returns-2 c =
 numbers-at-requires : tie.Need-numbers-at-requires
 numbers-at-requires c κs = (arrow (c .before) .within, omega arith)
 
-enum-known-names : tie.Need-enum-known-names
-enum-known-names c = search needs
-
-enum-told-3 : tie.Need-enum-told-3
-enum-told-3 c = search needs
-
 returns-3 : tie.Need-returns-3
 returns-3 c =
     let a = c .before .before .before .before .before .before .before .before .before .before .before .before .before .args in
     split-unnamed (position (c .before .before .before .before .before .before .before .before .before)) (arrow (c .before .before .before .before))
     (subst (ToldNumbers (separated 44 (readRanged 1 65535)) (a .text .now) (c .before .before .before .before .start .given .0 .0)) (c .enum-told3 .given .1) (c .before .before .numbers-at .ensures))
 
-slice-aggregate-word-end-2 : tie.Need-slice-aggregate-word-end-2
-slice-aggregate-word-end-2 c = search needs
-
 word-end-requires-2 : tie.Need-word-end-requires-2
 word-end-requires-2 c κs = listed (c .before .before) .found .within
-
-enum-known-end : tie.Need-enum-known-end
-enum-known-end c = search needs
-
-enum-told-4 : tie.Need-enum-told-4
-enum-told-4 c = search needs
 
 returns-4 : tie.Need-returns-4
 returns-4 c =
@@ -109,22 +76,22 @@ pub split-at-spec : {M : Type 1} → statement M
 split-at-spec =
     tie.close
     (tie.spec
-    position-at-requires
-    enum-known-name
-    enum-told
+    (λ c κs. search needs)
+    (λ c. search needs)
+    (λ c. search needs)
     returns
-    slice-aggregate-word-end
+    (λ c. search needs)
     word-end-requires
-    enum-known-start
-    enum-told-2
+    (λ c. search needs)
+    (λ c. search needs)
     returns-2
     numbers-at-requires
-    enum-known-names
-    enum-told-3
+    (λ c. search needs)
+    (λ c. search needs)
     returns-3
-    slice-aggregate-word-end-2
+    (λ c. search needs)
     word-end-requires-2
-    enum-known-end
-    enum-told-4
+    (λ c. search needs)
+    (λ c. search needs)
     returns-4
     returns-5)

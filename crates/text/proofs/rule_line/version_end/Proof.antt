@@ -5,14 +5,8 @@ use Rattle.text.proofs.LinePlaces.{version-told}
 use Rattle.text.proofs.rule_line.version_end.Statement.{statement}
 use Rattle.text.proofs.rule_line.version_end.Tie as tie
 
-slice-aggregate-word-end : tie.Need-slice-aggregate-word-end
-slice-aggregate-word-end c = search needs
-
-word-end-requires : tie.Need-word-end-requires
-word-end-requires c κs = search needs
-
 returns : tie.Need-returns
 returns c = version-told (c .before .before .before .args .text .now) (c .before .before .before .args .at) (c .word-end .result) (c .word-end .ensures)
 
 pub version-end-spec : {M : Type 1} → statement M
-version-end-spec = tie.close (tie.spec slice-aggregate-word-end word-end-requires returns)
+version-end-spec = tie.close (tie.spec (λ c. search needs) (λ c κs. search needs) returns)

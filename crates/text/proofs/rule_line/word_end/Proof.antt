@@ -6,12 +6,6 @@ use Rattle.text.proofs.Found.{word-found}
 use Rattle.text.proofs.rule_line.word_end.Statement.{statement}
 use Rattle.text.proofs.rule_line.word_end.Tie as tie
 
-begins-at-requires : tie.Need-begins-at-requires
-begins-at-requires c κs = search needs
-
-add-t6 : tie.Need-add-t6
-add-t6 c = search needs
-
 returns : tie.Need-returns
 returns c = word-found (c .before .before .before .before .args .text .now) (c .before .before .before .before .args .at) (c .before .before .before .before .args .word .now) (c .before .before .before .before .pre) (sym (c .before .begins-at .ensures) ∙ c .if1 .taken)
 
@@ -19,4 +13,4 @@ returns-2 : tie.Need-returns-2
 returns-2 c = sym (c .before .begins-at .ensures) ∙ c .if1 .left
 
 pub word-end-spec : {M : Type 1} → statement M
-word-end-spec = tie.close (tie.spec begins-at-requires add-t6 returns returns-2)
+word-end-spec = tie.close (tie.spec (λ c κs. search needs) (λ c. search needs) returns returns-2)

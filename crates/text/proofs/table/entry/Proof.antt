@@ -8,18 +8,6 @@ use lib.ListN.{length, List·getD-eq-default}
 use Rattle.text.proofs.table.entry.Statement.{statement}
 use Rattle.text.proofs.table.entry.Tie as tie
 
-mul-result : tie.Need-mul-result
-mul-result c = search needs
-
-array-read-result : tie.Need-array-read-result
-array-read-result c = search needs
-
-cast-result : tie.Need-cast-result
-cast-result c = search needs
-
-returns : tie.Need-returns
-returns c = search needs
-
 returns-2 : tie.Need-returns-2
 returns-2 c =
     let a = c .before .args in
@@ -28,4 +16,4 @@ returns-2 c =
     sym (List·getD-eq-default (a .t1) 0 h)
 
 pub entry-spec : {M : Type 1} → statement M
-entry-spec = tie.close (tie.spec mul-result array-read-result cast-result returns returns-2)
+entry-spec = tie.close (tie.spec (λ c. search needs) (λ c. search needs) (λ c. search needs) (λ c. search needs) returns-2)

@@ -4,7 +4,7 @@ use borrow.Author.Needs.{needs}
 use native.Mathlib.Omega.{arith}
 use native.Mathlib.Nat.{add-zero}
 use Prim.Native.Nat.{ℕ, _+_, _-_, _≤_}
-use mathlib.Core.Path.{_≡_, refl, sym, ap, _∙_}
+use mathlib.Core.Path.{_≡_, sym, ap, _∙_}
 use lib.ListN.{take, drop}
 use Rattle.text.specs.memory.Table.{tableName, tableNames, position, indexed}
 use Rattle.text.proofs.Tables.{position-none, position-here, position-next}
@@ -18,9 +18,6 @@ Inv-loop text table source at size name i₀ i =
 abbrev μ-loop : tie.MeasureT-loop
 μ-loop text table source at size name i₀ i = table .count - i
 
-part-requires : tie.Need-part-requires Inv-loop μ-loop
-part-requires c κs = search needs
-
 loop-holds : tie.Need-loop-holds Inv-loop μ-loop
 loop-holds c =
     let a = c .before .before .before .args in
@@ -28,21 +25,12 @@ loop-holds c =
     let e : a .table .count ≡ a .table .count - 0 = omega arith in
     (c .part .ensures, omega arith, ap (λ (m : ℕ). position n (indexed (tableName (a .text .now) (a .table)) 0 m)) e ∙ omega arith)
 
-is-named-requires : tie.Need-is-named-requires Inv-loop μ-loop
-is-named-requires c κs = search needs
-
 returns : tie.Need-returns Inv-loop μ-loop
 returns c =
     let a = c .before .before .before .before .before .before .before .before .args in
     let l = c .before .before .before .before .loop .inv in
     let z = position-here (c .before .before .before .before .before .part .result .now) (tableName (a .text .now) (a .table)) (c .before .before .before .before .loop .i) (a .table .count - c .before .before .before .before .loop .i) (omega arith) (sym (c .before .is-named .ensures) ∙ c .if2 .taken) in
     rw (← l .0, l .2, z) (sym (add-zero (c .before .before .before .before .loop .i)))
-
-add-i : tie.Need-add-i Inv-loop μ-loop
-add-i c = search needs
-
-loop-less : tie.Need-loop-less Inv-loop μ-loop
-loop-less c = search needs
 
 loop-again : tie.Need-loop-again Inv-loop μ-loop
 loop-again c =
@@ -65,11 +53,11 @@ find-spec =
     (tie.spec
     Inv-loop
     μ-loop
-    part-requires
+    (λ c κs. search needs)
     loop-holds
-    is-named-requires
+    (λ c κs. search needs)
     returns
-    add-i
-    loop-less
+    (λ c. search needs)
+    (λ c. search needs)
     loop-again
     returns-2)
