@@ -1,17 +1,16 @@
 -- A derivation's line on what memory holds: one law for each kind of line, and the derivation from there.
 -- Assumes nothing.
-use Prim.Native.Nat.{ℕ, suc, _+_, _≤_, _<_}
-use native.Mathlib.Nat.{zero-add}
+use Prim.Native.Nat.{ℕ, _+_, _≤_, _<_}
 use native.Mathlib.Numerals.{add-one}
 use native.Mathlib.Omega.{arith}
-use mathlib.Core.Path.{_≡_, refl, sym, ap, _∙_, subst}
+use mathlib.Core.Path.{_≡_, refl, _∙_, subst}
 use mathlib.Core.List.{List}
-use lib.ListN.{length, drop}
+use lib.ListN.{length}
 use Rattle.text.specs.Bytes.{Bytes}
-use Rattle.text.specs.Outcome.{Outcome, done, refused, mapped}
+use Rattle.text.specs.Outcome.{done, refused}
 use Rattle.text.specs.Reading.{Reader}
 use Rattle.text.specs.Lines.{refusal}
-use Rattle.text.specs.Derivation.{Rule, SNAND, SNOR, STN, EPRED, EPROP, IQ, RuleLine, rewrite, unsat, trivial, splitc, Line, step, footer, readLine, readVersion, readGrounder}
+use Rattle.text.specs.Derivation.{RuleLine, rewrite, unsat, trivial, splitc, step, footer, readLine, readVersion, readGrounder}
 use Rattle.text.specs.memory.Found.{Taken, Refused}
 use Rattle.text.specs.memory.Numbers.{numbersAt}
 use Rattle.text.specs.memory.RuleLines.{ruleOf, positionAt, EndFound, ToldEnd, ToldLine as ToldText}
@@ -20,11 +19,10 @@ use Rattle.text.specs.declared.table.Table.{Table}
 use Rattle.text.specs.declared.rule_line.Rule.{Rule as RuleName}
 use Rattle.text.specs.declared.rule_line.Rule.the-variants.{Snand, Snor, Stn, Epred, Eprop, Iq}
 use Rattle.text.specs.declared.rule_line.LineRead.{LineRead}
-use Rattle.replay.specs.Replay.{Place, top, heading, among, bottom, Replayed, wholeDerivation, lineDone, derivationLine, derivationFrom}
-use Rattle.replay.specs.memory.Going.{Going}
+use Rattle.replay.specs.Replay.{Place, top, heading, among, bottom, wholeDerivation, derivationLine, derivationFrom}
 use Rattle.replay.specs.memory.Held.{Held, rewrittenIn, removedIn, splitIn, refutedIn, ruleName, steppedIn}
-use Rattle.replay.specs.memory.Steps.{rowsIn, heldIn, Few, Moved, ToldStep}
-use Rattle.replay.specs.memory.Lines.{JudgedIn, lineIn, GoingIn, Leads, ToldLine, Finished, ToldReplayed, movedBy}
+use Rattle.replay.specs.memory.Steps.{rowsIn, heldIn, Few, ToldStep}
+use Rattle.replay.specs.memory.Lines.{JudgedIn, lineIn, GoingIn, ToldLine, Finished, ToldReplayed, movedBy}
 use Rattle.replay.specs.declared.live.Live.{Live}
 use Rattle.replay.specs.declared.live.Layout.{Layout}
 use Rattle.replay.specs.declared.live.Step.{Step}
@@ -46,45 +44,45 @@ name-rule Iq = refl
 pub told-text : (text : Bytes) (at : ℕ) (r other : LineRead) → r ≡ other → ToldText readLine text at r → ToldText readLine text at other
 told-text text at r other e t = subst (ToldText readLine text at) e t
 
-module _ (table : Table) (rows : List ℕ) (first : Held) (layout : Layout) (old : List ℕ) (m : Held) (text : Bytes) (at : ℕ) where
+module _ (table : Table) (rows : List ℕ) (first : Held) (layout : Layout) (old : List ℕ) (m : Held) (text : Bytes) (at line told : ℕ) (same : told ≡ line) where
   -- a rule line is read, and done or refused as what it does to memory is
   stepped-line : (l : RuleLine) (next : ℕ) → Taken readLine text at (step l) next → rowsIn layout old ≡ rows
-      → (r : Step) (work : List ℕ) → ToldStep (steppedIn table rows m l) layout old r work → ToldLine table rows first layout old m text at (movedBy r next) work
+      → (r : Step) (work : List ℕ) → ToldStep (steppedIn table rows m l) layout old r work → ToldLine table rows first layout old m text at line (movedBy r next told) work
   unfolding derivationLine
   stepped-line l next t kept (step-of.Done live) work s =
       (record { is = λ rules. rw (t .is, s .is); after = t .after; within = t .within }, (s .few, s .rows ∙ kept))
-  stepped-line l next t kept (step-of.Refused number) work s = λ rules. rw (t .is, s)
+  stepped-line l next t kept (step-of.Refused number) work s = ((λ rules. rw (t .is, s)), same)
 
   module _ (kept : rowsIn layout old ≡ rows) (next : ℕ) (r : Step) (work : List ℕ) where
     pub rewritten-line : (rule : RuleName) (name path steps : ℕ) → Taken readLine text at (step (rewrite (ruleOf rule) (positionAt text name path steps))) next
-        → ToldStep (rewrittenIn table rows m rule (positionAt text name path steps)) layout old r work → ToldLine table rows first layout old m text at (movedBy r next) work
+        → ToldStep (rewrittenIn table rows m rule (positionAt text name path steps)) layout old r work → ToldLine table rows first layout old m text at line (movedBy r next told) work
     unfolding steppedIn
     rewritten-line rule name path steps t s =
         stepped-line (rewrite (ruleOf rule) (positionAt text name path steps)) next t kept r work (rw (name-rule rule) s)
 
     pub refuted-line : (name path steps : ℕ) → Taken readLine text at (step (unsat (positionAt text name path steps))) next
-        → ToldStep (refutedIn m (positionAt text name path steps)) layout old r work → ToldLine table rows first layout old m text at (movedBy r next) work
+        → ToldStep (refutedIn m (positionAt text name path steps)) layout old r work → ToldLine table rows first layout old m text at line (movedBy r next told) work
     unfolding steppedIn
     refuted-line name path steps t s = stepped-line (unsat (positionAt text name path steps)) next t kept r work s
 
     pub removed-line : (name path steps : ℕ) → Taken readLine text at (step (trivial (positionAt text name path steps))) next
-        → ToldStep (removedIn m (positionAt text name path steps)) layout old r work → ToldLine table rows first layout old m text at (movedBy r next) work
+        → ToldStep (removedIn m (positionAt text name path steps)) layout old r work → ToldLine table rows first layout old m text at line (movedBy r next told) work
     unfolding steppedIn
     removed-line name path steps t s = stepped-line (trivial (positionAt text name path steps)) next t kept r work s
 
     pub split-line : (name path steps names many : ℕ) → Taken readLine text at (step (splitc (positionAt text name path steps) (numbersAt text names many))) next
-        → ToldStep (splitIn m (positionAt text name path steps) (numbersAt text names many)) layout old r work → ToldLine table rows first layout old m text at (movedBy r next) work
+        → ToldStep (splitIn m (positionAt text name path steps) (numbersAt text names many)) layout old r work → ToldLine table rows first layout old m text at line (movedBy r next told) work
     unfolding steppedIn
     split-line name path steps names many t s =
         stepped-line (splitc (positionAt text name path steps) (numbersAt text names many)) next t kept r work s
 
-  pub footer-line : (names many next : ℕ) → Taken readLine text at (footer (numbersAt text names many)) next → names + many ≤ next → ToldLine table rows first layout old m text at (moved.Footer names many next) old
+  pub footer-line : (names many next : ℕ) → Taken readLine text at (footer (numbersAt text names many)) next → names + many ≤ next → ToldLine table rows first layout old m text at line (moved.Footer names many next) old
   unfolding derivationLine
   footer-line names many next t near = (record { is = λ rules. rw (t .is); after = t .after; within = t .within }, (near, refl))
 
-  pub malformed-line : Refused 10 readLine text at → (work : List ℕ) → ToldLine table rows first layout old m text at (moved.Refused 10) work
+  pub malformed-line : Refused 10 readLine text at → (work : List ℕ) → ToldLine table rows first layout old m text at line (moved.Refused 10 told) work
   unfolding derivationLine
-  malformed-line t work = λ rules. rw (t .is)
+  malformed-line t work = ((λ rules. rw (t .is)), same)
 
 -- The derivation from a line on.
 module _ (table : Table) (rows : List ℕ) (first : Held) (layout : Layout) (old : List ℕ) (whole : JudgedIn) (text : Bytes) (at rules : ℕ) (m : Held)
@@ -96,10 +94,10 @@ module _ (table : Table) (rows : List ℕ) (first : Held) (layout : Layout) (old
   lines-end h = going-end 3 line wholeDerivation text whole at (rules + 3) (among m rules) going h
 
   module _ (more : at < length text) where
-    pub lines-refused : (number : ℕ) (work : List ℕ) → ToldLine table rows first layout old m text at (moved.Refused number) work → whole ≡ refused (refusal number 3 (rules + 3))
-    lines-refused number work t = going-refused 3 line wholeDerivation text whole at (rules + 3) (among m rules) going more number (t rules)
+    pub lines-refused : (number told : ℕ) (work : List ℕ) → ToldLine table rows first layout old m text at (rules + 3) (moved.Refused number told) work → whole ≡ refused (refusal number 3 told)
+    lines-refused number told work t = rw (t .1) (going-refused 3 line wholeDerivation text whole at (rules + 3) (among m rules) going more number (t .0 rules))
 
-    pub lines-on : (live : Live) (next : ℕ) (work : List ℕ) → ToldLine table rows first layout old m text at (moved.On live next) work
+    pub lines-on : (live : Live) (next : ℕ) (work : List ℕ) → ToldLine table rows first layout old m text at (rules + 3) (moved.On live next) work
         → GoingIn table rows first whole text next (rules + 1 + 3) (among (heldIn layout live work) (rules + 1))
     lines-on live next work t =
         let e : rules + 3 + 1 ≡ rules + 1 + 3 = omega arith in
@@ -107,7 +105,7 @@ module _ (table : Table) (rows : List ℕ) (first : Held) (layout : Layout) (old
         (going-on 3 line wholeDerivation text whole at (rules + 3) (among m rules) going more next (among (heldIn layout live work) (rules + 1))
         (t .0 .is rules ∙ rw (add-one rules)) (t .0 .after) (t .0 .within))
 
-    module _ (names many next : ℕ) (work : List ℕ) (t : ToldLine table rows first layout old m text at (moved.Footer names many next) work) where
+    module _ (names many next : ℕ) (work : List ℕ) (t : ToldLine table rows first layout old m text at (rules + 3) (moved.Footer names many next) work) where
       closed : GoingIn table rows first whole text next (rules + 3 + 1) (bottom m rules (numbersAt text names many))
       closed =
           going-on 3 line wholeDerivation text whole at (rules + 3) (among m rules) going more next (bottom m rules (numbersAt text names many)) (t .0 .is rules) (t .0 .after)
@@ -124,10 +122,10 @@ module _ (table : Table) (rows : List ℕ) (first : Held) (layout : Layout) (old
       lines-whole h = going-end 3 line wholeDerivation text whole next (rules + 3 + 1) (bottom m rules (numbersAt text names many)) closed h
 
 -- what is told of a line, by its answer, and with rows that are the same
-pub told-line : (table : Table) (rows others : List ℕ) → rows ≡ others → (first : Held) (layout : Layout) (old : List ℕ) (m : Held) (text : Bytes) (at : ℕ) (r other : MovedRead) → r ≡ other
-    → (work : List ℕ) → ToldLine table rows first layout old m text at r work → ToldLine table others first layout old m text at other work
-told-line table rows others e first layout old m text at r other f work t =
-    subst (λ (q : MovedRead). ToldLine table others first layout old m text at q work) f (subst (λ (s : List ℕ). ToldLine table s first layout old m text at r work) e t)
+pub told-line : (table : Table) (rows others : List ℕ) → rows ≡ others → (first : Held) (layout : Layout) (old : List ℕ) (m : Held) (text : Bytes) (at line : ℕ) (r other : MovedRead) → r ≡ other
+    → (work : List ℕ) → ToldLine table rows first layout old m text at line r work → ToldLine table others first layout old m text at line other work
+told-line table rows others e first layout old m text at line r other f work t =
+    subst (λ (q : MovedRead). ToldLine table others first layout old m text at line q work) f (subst (λ (s : List ℕ). ToldLine table s first layout old m text at line r work) e t)
 
 -- The heading.
 module _ (table : Table) (rows : List ℕ) (m : Held) (text : Bytes) where

@@ -6,10 +6,10 @@ use crate::rewriting::rewritten;
 use crate::whole::refuted;
 use crate::whole::removed;
 use crate::whole::split;
+use text::reader::read_line;
 use text::rule_line::Ended;
 use text::rule_line::LineRead;
 use text::rule_line::grounder_end;
-use text::rule_line::line_at;
 use text::rule_line::version_end;
 use text::table::Table;
 ghost use mathlib.Core.Path.{_≡_};
@@ -35,7 +35,7 @@ pub enum Replayed {
     },
 }
 
-// What a line comes to: the live formulas after it and the place behind it; the footer; or a number.
+// What a line comes to: the live formulas after it and the place behind it; the footer; or a number and the line's own.
 enum Moved {
     On {
         live: Live,
@@ -46,31 +46,37 @@ enum Moved {
         many: usize,
         next: usize,
     },
-    Refused(u32),
+    Refused {
+        number: u32,
+        line: u32,
+    },
 }
 
-fn moved_by(step: Step, next: usize) -> Moved
-    ensures { λ r. ⌜ r ≡ movedBy step next ⌝ }
+fn moved_by(step: Step, next: usize, line: u32) -> Moved
+    ensures { λ r. ⌜ r ≡ movedBy step next line ⌝ }
 {
     match step {
         Step::Done(live) => Moved::On { live, next },
-        Step::Refused(number) => Moved::Refused(number),
+        Step::Refused(number) => Moved::Refused { number, line },
     }
 }
 
-// The line at a place, read and applied.
+// The line at a place, under its number, read and applied.
 fn replay_line(
     text: &[u8],
     at: usize,
+    line: u32,
     work: &mut [u32],
     layout: Layout,
     live: Live,
     table: Table,
 ) -> Moved
     requires { ⌜ Arranged layout (length (now work)) × Few live × (table .domain ≤ 64) × (at < length (now text)) × (length (now text) ≤ 65536) ⌝ }
-    ensures { λ r. ⌜ ((first : Held) → ToldLine table (rowsIn layout (now (work .entry))) first layout (now (work .entry)) (heldIn layout live (now (work .entry))) (now (text .entry)) at r (now (work .exit))) ⌝ }
+    ensures { λ r. ⌜ ((first : Held) → ToldLine table (rowsIn layout (now (work .entry))) first layout (now (work .entry)) (heldIn layout live (now (work .entry))) (now (text .entry)) at line r (now (work .exit))) ⌝ }
 {
-    match line_at(text, at) {
+    let numbered = read_line(text, at, line);
+    let read = numbered.read;
+    match read {
         LineRead::Rewrite {
             rule,
             name,
@@ -80,19 +86,28 @@ fn replay_line(
         } => moved_by(
             rewritten(text, work, layout, live, table, rule, name, path, steps),
             next,
+            numbered.line,
         ),
         LineRead::Unsat {
             name,
             path,
             steps,
             next,
-        } => moved_by(refuted(text, work, layout, live, name, path, steps), next),
+        } => moved_by(
+            refuted(text, work, layout, live, name, path, steps),
+            next,
+            numbered.line,
+        ),
         LineRead::Trivial {
             name,
             path,
             steps,
             next,
-        } => moved_by(removed(text, work, layout, live, name, path, steps), next),
+        } => moved_by(
+            removed(text, work, layout, live, name, path, steps),
+            next,
+            numbered.line,
+        ),
         LineRead::Split {
             name,
             path,
@@ -103,9 +118,13 @@ fn replay_line(
         } => moved_by(
             split(text, work, layout, live, name, path, steps, names, many),
             next,
+            numbered.line,
         ),
         LineRead::Footer { names, many, next } => Moved::Footer { names, many, next },
-        LineRead::Malformed => Moved::Refused(10),
+        LineRead::Malformed => Moved::Refused {
+            number: 10,
+            line: numbered.line,
+        },
     }
 }
 
@@ -125,7 +144,7 @@ fn replay_lines(
     let mut live = first;
     let mut rules: u32 = 0;
     while place < text.len() {
-        match replay_line(text, place, work, layout, live, table) {
+        match replay_line(text, place, rules + 3, work, layout, live, table) {
             Moved::On { live: after, next } => {
                 live = after;
                 place = next;
@@ -145,11 +164,8 @@ fn replay_lines(
                     many,
                 };
             }
-            Moved::Refused(number) => {
-                return Replayed::Refused {
-                    number,
-                    line: rules + 3,
-                };
+            Moved::Refused { number, line } => {
+                return Replayed::Refused { number, line };
             }
         }
     }

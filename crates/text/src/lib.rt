@@ -5,6 +5,7 @@ pub mod line;
 pub mod name;
 pub mod number;
 pub mod problem_line;
+pub mod reader;
 pub mod rows;
 pub mod rule_line;
 pub mod table;

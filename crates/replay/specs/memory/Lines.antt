@@ -4,12 +4,12 @@ use mathlib.Core.Path.{_≡_}
 use mathlib.Core.List.{List}
 use lib.ListN.{length, drop}
 use Rattle.text.specs.Bytes.{Bytes}
-use Rattle.text.specs.Outcome.{Outcome, done, refused}
+use Rattle.text.specs.Outcome.{done, refused}
 use Rattle.text.specs.Reading.{Reader}
 use Rattle.text.specs.Lines.{Judged, refusal}
 use Rattle.text.specs.memory.Numbers.{numbersAt}
 use Rattle.text.specs.declared.table.Table.{Table}
-use Rattle.replay.specs.Replay.{Place, top, heading, among, bottom, Replayed, wholeDerivation, derivationLine}
+use Rattle.replay.specs.Replay.{Place, among, bottom, Replayed, wholeDerivation, derivationLine}
 use Rattle.replay.specs.memory.Going.{Going}
 use Rattle.replay.specs.memory.Held.{Held, steppedIn}
 use Rattle.replay.specs.memory.Steps.{rowsIn, heldIn, Few}
@@ -40,11 +40,11 @@ module _ (table : Table) (rows : List ℕ) (first : Held) where
     pub after : at < next
     pub within : next ≤ length text
 
-  -- a rule line is done, the footer is read, or the line is refused
-  abbrev pub ToldLine : Layout → List ℕ → Held → Bytes → ℕ → Moved → List ℕ → Type 0
-  ToldLine layout old m text at (moved.On live next) work = Leads m text at next (λ rules. among (heldIn layout live work) (suc rules)) × (Few live × (rowsIn layout work ≡ rows))
-  ToldLine layout old m text at (moved.Footer names many next) work = Leads m text at next (λ rules. bottom m rules (numbersAt text names many)) × ((names + many ≤ next) × (work ≡ old))
-  ToldLine layout old m text at (moved.Refused number) work = (rules : ℕ) → lineIn (among m rules) (drop at text) ≡ refused number
+  -- a rule line is done, the footer is read, or the line is refused under its number
+  abbrev pub ToldLine : Layout → List ℕ → Held → Bytes → ℕ → ℕ → Moved → List ℕ → Type 0
+  ToldLine layout old m text at line (moved.On live next) work = Leads m text at next (λ rules. among (heldIn layout live work) (suc rules)) × (Few live × (rowsIn layout work ≡ rows))
+  ToldLine layout old m text at line (moved.Footer names many next) work = Leads m text at next (λ rules. bottom m rules (numbersAt text names many)) × ((names + many ≤ next) × (work ≡ old))
+  ToldLine layout old m text at line (moved.Refused number told) work = ((rules : ℕ) → lineIn (among m rules) (drop at text) ≡ refused number) × (told ≡ line)
 
 -- what a derivation comes to is in memory
 pub record Finished (outcome : JudgedIn) (layout : Layout) (rows : List ℕ) (text : Bytes) (live : Live) (rules names many : ℕ) (work : List ℕ) : Type 0 where
@@ -58,7 +58,7 @@ abbrev pub ToldReplayed : JudgedIn → Layout → List ℕ → Bytes → Replaye
 ToldReplayed outcome layout rows text (replayed.Done live rules names many) work = Finished outcome layout rows text live rules names many work
 ToldReplayed outcome layout rows text (replayed.Refused number line) work = outcome ≡ refused (refusal number 3 line)
 
--- a step, with the place behind its line
-abbrev pub movedBy : Step → ℕ → Moved
-movedBy (step.Done live) next = moved.On live next
-movedBy (step.Refused number) next = moved.Refused number
+-- a step, with the place behind its line and the line's number
+abbrev pub movedBy : Step → ℕ → ℕ → Moved
+movedBy (step.Done live) next line = moved.On live next
+movedBy (step.Refused number) next line = moved.Refused number line

@@ -8,7 +8,7 @@ use Rattle.text.specs.Bytes.{Bytes, bytes, begins}
 use Rattle.text.specs.Outcome.{Outcome, refused}
 use Rattle.text.specs.Reading.{Reader, give, _⇒_, oneOf, separated}
 use Rattle.text.specs.Derivation.{Position, Rule, SNAND, SNOR, STN, EPRED, EPROP, IQ, RuleLine, rewrite, unsat, trivial, splitc, Line, step, footer}
-use Rattle.text.specs.Derivation.{readRanged, readFormulaName, readPosition, atPosition, readSplit, readFooter}
+use Rattle.text.specs.Derivation.{readRanged, readFormulaName, readPosition, atPosition, readSplit, readFooter, readLine}
 use Rattle.text.specs.memory.Found.{Found, Taken, Refused, WordFound}
 use Rattle.text.specs.memory.Numbers.{numberAt, numberEnd, numbersAt}
 use Rattle.text.specs.declared.rule_line.Rule.{Rule as RuleName}
@@ -27,6 +27,7 @@ use Rattle.text.specs.declared.rule_line.LineKind.{LineKind}
 use Rattle.text.specs.declared.rule_line.LineKind.the-variants as kind
 use Rattle.text.specs.declared.rule_line.LineRead.{LineRead}
 use Rattle.text.specs.declared.rule_line.LineRead.the-variants as line
+use Rattle.text.specs.declared.reader.Numbered.{Numbered}
 
 abbrev pub ruleOf : RuleName → Rule
 ruleOf Snand = SNAND
@@ -104,6 +105,11 @@ ToldLine reader text at (line.Split name path steps names many next) =
     × ((path + steps ≤ next) × (names + many ≤ next))
 ToldLine reader text at (line.Footer names many next) = Taken reader text at (footer (numbersAt text names many)) next × (names + many ≤ next)
 ToldLine reader text at line.Malformed = Refused 10 reader text at
+
+-- a line is read under its number
+pub record ToldNumbered (text : Bytes) (at number : ℕ) (r : Numbered) : Type 0 where
+  pub told : ToldLine readLine text at (r .read)
+  pub numbered : r .line ≡ number
 
 -- the outcome is what another reader makes of the text from a later place on
 pub record Behind (outcome : Outcome ℕ (Line × Bytes)) (reader : Reader Line) (text : Bytes) (at next : ℕ) : Type 0 where

@@ -1,16 +1,17 @@
 -- `replaying::replay_lines`: the whole derivation comes to what the rest of it comes to from the live formulas so far.
 -- Assumes nothing.
-use Rattle.replay.proofs.replaying.replay_lines.Statement.{statement}
 use borrow.Author.Needs.{needs}
 use native.Mathlib.Omega.{arith}
-use Prim.Native.Nat.{_+_, _-_, _≤_, _<_}
-use mathlib.Core.Path.{_≡_, refl, sym, _∙_}
+use Prim.Native.Nat.{_+_, _-_, _≤_}
+use mathlib.Core.Path.{_≡_, refl, _∙_}
 use lib.ListN.{length}
 use Rattle.replay.specs.Replay.{among}
 use Rattle.replay.specs.memory.Held.{Held}
 use Rattle.replay.specs.memory.Steps.{rowsIn, heldIn, Few}
-use Rattle.replay.specs.memory.Lines.{JudgedIn, GoingIn}
+use Rattle.replay.specs.memory.Lines.{JudgedIn, GoingIn, ToldLine}
+use Rattle.replay.specs.declared.replaying.Moved.{Moved}
 use Rattle.replay.proofs.Turns.{told-line, lines-end, lines-refused, lines-on, lines-more, lines-whole, lines-finished}
+use Rattle.replay.proofs.replaying.replay_lines.Statement.{statement}
 use Rattle.replay.proofs.replaying.replay_lines.Tie as tie
 
 abbrev Inv-loop : tie.InvT-loop
@@ -19,84 +20,117 @@ Inv-loop text at work₀ layout table place₀ live₀ rules₀ work place live 
 abbrev μ-loop : tie.MeasureT-loop
 μ-loop text at work₀ layout table place₀ live₀ rules₀ work place live rules = length text - place
 
+-- what a line came to, by its answer
+line-told : (c : tie.After-replay-line Inv-loop μ-loop) (other : Moved) → c .replay-line .result ≡ other → (start : Held)
+    → let l = c .before .before .before .loop in
+    let a = c .before .before .before .before .before .before .args in
+    ToldLine (a .table) (rowsIn (a .layout) (a .work .now)) start (a .layout) (l .work) (heldIn (a .layout) (l .live) (l .work)) (a .text .now) (l .place) (l .rules + 3) other (c .replay-line .last .1 .1 .1 .0)
+line-told c other e start =
+    let l = c .before .before .before .loop in
+    let a = c .before .before .before .before .before .before .args in
+    told-line (a .table) _ _ (l .inv .2) start (a .layout) (l .work) (heldIn (a .layout) (l .live) (l .work)) (a .text .now) (l .place) (l .rules + 3) _ other e
+    (c .replay-line .last .1 .1 .1 .0) (c .replay-line .ensures start)
+
+-- memory is as long as it was
+long : (c : tie.After-replay-line Inv-loop μ-loop) → length (c .replay-line .last .1 .1 .1 .0) ≡ length (c .before .before .before .before .before .before .args .work .now)
+long c =
+    let l = c .before .before .before .loop in
+    let same : length (c .replay-line .last .1 .1 .1 .0) ≡ length (l .work) = search needs in
+    same ∙ l .inv .3
+
 loop-holds : tie.Need-loop-holds Inv-loop μ-loop
 loop-holds c = (c .before .before .pre .3, c .before .before .pre .1, refl, refl, omega arith, λ start whole g. g)
 
-replay-line-requires : tie.Need-replay-line-requires Inv-loop μ-loop
-replay-line-requires c κs = (rw (c .before .before .loop .inv .3) (c .before .before .before .before .before .pre .0), c .before .before .loop .inv .1, c .before .before .before .before .before .pre .2, c .before .loop-test .taken, c .before .before .before .before .before .pre .4)
+add-replay-line : tie.Need-add-replay-line Inv-loop μ-loop
+add-replay-line c =
+    let l = c .before .loop in
+    omega (arith, l .inv .4, l .inv .0, c .before .before .before .before .pre .4)
 
-enum-known-after : tie.Need-enum-known-after Inv-loop μ-loop
-enum-known-after c = search needs
+replay-line-requires : tie.Need-replay-line-requires Inv-loop μ-loop
+replay-line-requires c κs =
+    let l = c .before .before .loop in
+    let pre = c .before .before .before .before .before .pre in
+    (rw (l .inv .3) (pre .0), l .inv .1, pre .2, c .before .loop-test .taken, pre .4)
 
 add-rules : tie.Need-add-rules Inv-loop μ-loop
-add-rules c = omega (arith, c .before .before .before .before .before .before .before .before .loop .inv .4, c .before .before .before .before .before .before .before .before .before .before .before .pre .4)
+add-rules c =
+    let line = c .before .before .before .before .before in
+    omega (arith, line .before .before .before .loop .inv .4, line .before .before .before .before .before .before .pre .4)
 
 loop-less : tie.Need-loop-less Inv-loop μ-loop
 loop-less c =
-    let a = c .before .before .before .before .before .before .before .before .before .before .before .args in
-    let l = c .before .before .before .before .before .before .before .before .loop in
-    let start = heldIn (a .layout) (l .live) (l .work) in
-    let t = (told-line (a .table) _ _ (l .inv .2) start (a .layout) (l .work) (heldIn (a .layout) (l .live) (l .work)) (a .text .now) (l .place) _ _ (c .before .after .given .1) (c .before .before .before .before .before .replay-line .last .1 .1 .0) (c .before .before .before .before .before .replay-line .ensures start)) in
-    omega (arith, t .0 .after, t .0 .within, c .before .before .before .before .before .before .before .loop-test .taken)
+    let line = c .before .before .before .before .before in
+    let l = line .before .before .before .loop in
+    let a = line .before .before .before .before .before .before .args in
+    let t = line-told line _ (c .before .after .given .1) (heldIn (a .layout) (l .live) (l .work)) in
+    omega (arith, t .0 .after, t .0 .within, line .before .before .loop-test .taken)
 
 loop-again : tie.Need-loop-again Inv-loop μ-loop
 loop-again c =
-    let a = c .before .before .before .before .before .before .before .before .before .before .before .args in
-    let l = c .before .before .before .before .before .before .before .before .loop in
-    let start = heldIn (a .layout) (l .live) (l .work) in
-    let t = (told-line (a .table) _ _ (l .inv .2) start (a .layout) (l .work) (heldIn (a .layout) (l .live) (l .work)) (a .text .now) (l .place) _ _ (c .before .after .given .1) (c .before .before .before .before .before .replay-line .last .1 .1 .0) (c .before .before .before .before .before .replay-line .ensures start)) in
-    let same : length (c .before .before .before .before .before .replay-line .last .1 .1 .0) ≡ length (l .work) = search needs in
-    (t .0 .within, t .1 .0, t .1 .1, same ∙ l .inv .3, omega (arith, t .0 .after, l .inv .4), λ start whole g. lines-on (a .table) (rowsIn (a .layout) (a .work .now)) start (a .layout) (l .work) whole (a .text .now) (l .place) (l .rules) (heldIn (a .layout) (l .live) (l .work)) (l .inv .5 start whole g) (c .before .before .before .before .before .before .before .loop-test .taken) _ _ _ (told-line (a .table) _ _ (l .inv .2) start (a .layout) (l .work) (heldIn (a .layout) (l .live) (l .work)) (a .text .now) (l .place) _ _ (c .before .after .given .1) (c .before .before .before .before .before .replay-line .last .1 .1 .0) (c .before .before .before .before .before .replay-line .ensures start)))
+    let line = c .before .before .before .before .before in
+    let l = line .before .before .before .loop in
+    let a = line .before .before .before .before .before .before .args in
+    let t = line-told line _ (c .before .after .given .1) (heldIn (a .layout) (l .live) (l .work)) in (
+      t .0 .within,
+      t .1 .0,
+      t .1 .1,
+      long line,
+      omega (arith, t .0 .after, l .inv .4),
+      λ start whole g.
+          lines-on (a .table) (rowsIn (a .layout) (a .work .now)) start (a .layout) (l .work) whole (a .text .now) (l .place) (l .rules) (heldIn (a .layout) (l .live) (l .work))
+          (l .inv .5 start whole g) (line .before .before .loop-test .taken) _ _ _ (line-told line _ (c .before .after .given .1) start),
+    )
 
-enum-known-names : tie.Need-enum-known-names Inv-loop μ-loop
-enum-known-names c = search needs
-
-add-t23 : tie.Need-add-t23 Inv-loop μ-loop
-add-t23 c = omega (arith, c .before .before .before .before .before .before .before .before .before .loop .inv .4, c .before .before .before .before .before .before .before .before .before .loop .inv .0, c .before .before .before .before .before .before .before .before .before .before .before .before .pre .4)
+add-t25 : tie.Need-add-t25 Inv-loop μ-loop
+add-t25 c =
+    let line = c .before .before .before .before .before .before in
+    let l = line .before .before .before .loop in
+    omega (arith, l .inv .4, l .inv .0, line .before .before .before .before .before .before .pre .4)
 
 same-length : tie.Need-same-length Inv-loop μ-loop
-same-length c =
-    let same : length (c .before .before .before .before .before .before .replay-line .last .1 .1 .0) ≡ length (c .before .before .before .before .before .before .before .before .before .loop .work) = search needs in
-    same ∙ c .before .before .before .before .before .before .before .before .before .loop .inv .3
+same-length c = long (c .before .before .before .before .before .before)
 
 returns : tie.Need-returns Inv-loop μ-loop
 returns c =
-    let a = c .before .before .before .before .before .before .before .before .before .before .before .before .args in
-    let l = c .before .before .before .before .before .before .before .before .before .loop in
-    λ start whole g. lines-more (a .table) (rowsIn (a .layout) (a .work .now)) start (a .layout) (l .work) whole (a .text .now) (l .place) (l .rules) (heldIn (a .layout) (l .live) (l .work)) (l .inv .5 start whole g) (c .before .before .before .before .before .before .before .before .loop-test .taken) _ _ _ (c .before .before .before .before .before .before .replay-line .last .1 .1 .0) (told-line (a .table) _ _ (l .inv .2) start (a .layout) (l .work) (heldIn (a .layout) (l .live) (l .work)) (a .text .now) (l .place) _ _ (c .before .before .names .given .1) (c .before .before .before .before .before .before .replay-line .last .1 .1 .0) (c .before .before .before .before .before .before .replay-line .ensures start)) (c .if1 .taken)
+    let line = c .before .before .before .before .before .before in
+    let l = line .before .before .before .loop in
+    let a = line .before .before .before .before .before .before .args in
+    λ start whole g.
+    lines-more (a .table) (rowsIn (a .layout) (a .work .now)) start (a .layout) (l .work) whole (a .text .now) (l .place) (l .rules) (heldIn (a .layout) (l .live) (l .work))
+    (l .inv .5 start whole g) (line .before .before .loop-test .taken) _ _ _ (line .replay-line .last .1 .1 .1 .0) (line-told line _ (c .before .before .names .given .1) start)
+    (c .if1 .taken)
 
 same-length-2 : tie.Need-same-length-2 Inv-loop μ-loop
-same-length-2 c =
-    let same : length (c .before .before .before .before .before .before .replay-line .last .1 .1 .0) ≡ length (c .before .before .before .before .before .before .before .before .before .loop .work) = search needs in
-    same ∙ c .before .before .before .before .before .before .before .before .before .loop .inv .3
+same-length-2 c = long (c .before .before .before .before .before .before)
 
 returns-2 : tie.Need-returns-2 Inv-loop μ-loop
 returns-2 c =
-    let a = c .before .before .before .before .before .before .before .before .before .before .before .before .args in
-    let l = c .before .before .before .before .before .before .before .before .before .loop in
+    let line = c .before .before .before .before .before .before in
+    let l = line .before .before .before .loop in
+    let a = line .before .before .before .before .before .before .args in
     λ start whole g.
-    let t = (told-line (a .table) _ _ (l .inv .2) start (a .layout) (l .work) (heldIn (a .layout) (l .live) (l .work)) (a .text .now) (l .place) _ _ (c .before .before .names .given .1) (c .before .before .before .before .before .before .replay-line .last .1 .1 .0) (c .before .before .before .before .before .before .replay-line .ensures start)) in
-    lines-finished whole (a .layout) (rowsIn (a .layout) (a .work .now)) (a .text .now) (l .live) (l .rules) _ _ (l .work) (c .before .before .before .before .before .before .replay-line .last .1 .1 .0) (t .1 .1) (lines-whole (a .table) (rowsIn (a .layout) (a .work .now)) start (a .layout) (l .work) whole (a .text .now) (l .place) (l .rules) (heldIn (a .layout) (l .live) (l .work)) (l .inv .5 start whole g) (c .before .before .before .before .before .before .before .before .loop-test .taken) _ _ _ (c .before .before .before .before .before .before .replay-line .last .1 .1 .0) t (omega (arith, c .if1 .left))) (l .inv .1) (l .inv .2) (omega (arith, t .1 .0, t .0 .within)) (omega (arith, l .inv .4, l .inv .0))
-
-enum-known-number : tie.Need-enum-known-number Inv-loop μ-loop
-enum-known-number c = search needs
-
-add-t24 : tie.Need-add-t24 Inv-loop μ-loop
-add-t24 c = omega (arith, c .before .before .before .before .before .before .before .before .loop .inv .4, c .before .before .before .before .before .before .before .before .loop .inv .0, c .before .before .before .before .before .before .before .before .before .before .before .pre .4)
+    let t = line-told line _ (c .before .before .names .given .1) start in
+    lines-finished whole (a .layout) (rowsIn (a .layout) (a .work .now)) (a .text .now) (l .live) (l .rules) _ _ (l .work) (line .replay-line .last .1 .1 .1 .0) (t .1 .1)
+    (lines-whole (a .table) (rowsIn (a .layout) (a .work .now)) start (a .layout) (l .work) whole (a .text .now) (l .place) (l .rules) (heldIn (a .layout) (l .live) (l .work))
+    (l .inv .5 start whole g) (line .before .before .loop-test .taken) _ _ _ (line .replay-line .last .1 .1 .1 .0) t (omega (arith, c .if1 .left)))
+    (l .inv .1) (l .inv .2) (omega (arith, t .1 .0, t .0 .within)) (omega (arith, l .inv .4, l .inv .0))
 
 same-length-3 : tie.Need-same-length-3 Inv-loop μ-loop
-same-length-3 c =
-    let same : length (c .before .before .before .before .before .replay-line .last .1 .1 .0) ≡ length (c .before .before .before .before .before .before .before .before .loop .work) = search needs in
-    same ∙ c .before .before .before .before .before .before .before .before .loop .inv .3
+same-length-3 c = long (c .before .before .before .before .before)
 
 returns-3 : tie.Need-returns-3 Inv-loop μ-loop
 returns-3 c =
-    let a = c .before .before .before .before .before .before .before .before .before .before .before .args in
-    let l = c .before .before .before .before .before .before .before .before .loop in
-    λ start whole g. lines-refused (a .table) (rowsIn (a .layout) (a .work .now)) start (a .layout) (l .work) whole (a .text .now) (l .place) (l .rules) (heldIn (a .layout) (l .live) (l .work)) (l .inv .5 start whole g) (c .before .before .before .before .before .before .before .loop-test .taken) _ (c .before .before .before .before .before .replay-line .last .1 .1 .0) (told-line (a .table) _ _ (l .inv .2) start (a .layout) (l .work) (heldIn (a .layout) (l .live) (l .work)) (a .text .now) (l .place) _ _ (c .before .number .given .1) (c .before .before .before .before .before .replay-line .last .1 .1 .0) (c .before .before .before .before .before .replay-line .ensures start))
+    let line = c .before .before .before .before .before in
+    let l = line .before .before .before .loop in
+    let a = line .before .before .before .before .before .before .args in
+    λ start whole g.
+    lines-refused (a .table) (rowsIn (a .layout) (a .work .now)) start (a .layout) (l .work) whole (a .text .now) (l .place) (l .rules) (heldIn (a .layout) (l .live) (l .work))
+    (l .inv .5 start whole g) (line .before .before .loop-test .taken) _ _ (line .replay-line .last .1 .1 .1 .0) (line-told line _ (c .before .number .given .1) start)
 
-add-t25 : tie.Need-add-t25 Inv-loop μ-loop
-add-t25 c = omega (arith, c .before .loop .inv .4, c .before .loop .inv .0, c .before .before .before .before .pre .4)
+add-t26 : tie.Need-add-t26 Inv-loop μ-loop
+add-t26 c =
+    let l = c .before .loop in
+    omega (arith, l .inv .4, l .inv .0, c .before .before .before .before .pre .4)
 
 same-length-4 : tie.Need-same-length-4 Inv-loop μ-loop
 same-length-4 c = c .before .loop .inv .3
@@ -105,7 +139,9 @@ returns-4 : tie.Need-returns-4 Inv-loop μ-loop
 returns-4 c =
     let a = c .before .before .before .before .args in
     let l = c .before .loop in
-    λ start whole g. lines-end (a .table) (rowsIn (a .layout) (a .work .now)) start (a .layout) (l .work) whole (a .text .now) (l .place) (l .rules) (heldIn (a .layout) (l .live) (l .work)) (l .inv .5 start whole g) (omega (arith, c .loop-test .left))
+    λ start whole g.
+    lines-end (a .table) (rowsIn (a .layout) (a .work .now)) start (a .layout) (l .work) whole (a .text .now) (l .place) (l .rules) (heldIn (a .layout) (l .live) (l .work))
+    (l .inv .5 start whole g) (omega (arith, c .loop-test .left))
 
 pub replay-lines-spec : {M : Type 1} → statement M
 replay-lines-spec =
@@ -114,21 +150,21 @@ replay-lines-spec =
     Inv-loop
     μ-loop
     loop-holds
+    add-replay-line
     replay-line-requires
-    enum-known-after
+    (λ c. search needs)
     add-rules
     loop-less
     loop-again
-    enum-known-names
-    add-t23
+    (λ c. search needs)
+    add-t25
     same-length
     returns
     same-length-2
     returns-2
-    enum-known-number
-    add-t24
+    (λ c. search needs)
     same-length-3
     returns-3
-    add-t25
+    add-t26
     same-length-4
     returns-4)
