@@ -43,6 +43,12 @@ abbrev pub partsOf : List Formula → Formulas
 partsOf [] = noParts
 partsOf (f ∷ fs) = part f (partsOf fs)
 
+-- one part alone, and `otherwise` for none or several
+abbrev pub onSole : {A : Type 0} → A → (Formula → A) → Formulas → A
+onSole otherwise k noParts = otherwise
+onSole otherwise k (part f noParts) = k f
+onSole otherwise k (part f (part g fs)) = otherwise
+
 abbrev pub termCount : Terms → ℕ
 termCount noTerms = 0
 termCount (term t ts) = suc (termCount ts)

@@ -2,7 +2,7 @@
 use mathlib.Core.Bool.{Bool, true, false, _&&_}
 use Rattle.text.specs.Problem.{Name, Problem, isInput, isOutput}
 use Rattle.logic.specs.Formula.{Term, element, variable, Terms, noTerms, term, Side, all, any, Connective, negation, implies, impliedBy, equivalent, junction}
-use Rattle.logic.specs.Formula.{Formula, truth, atom, equal, connective, quantifier, Formulas, noParts, part}
+use Rattle.logic.specs.Formula.{Formula, truth, atom, equal, connective, quantifier, Formulas, noParts, part, onSole}
 
 -- every predicate passes a test
 unfoldable mutual
@@ -29,12 +29,6 @@ isSimple (equal s t) = true
 isSimple (connective o fs) = false
 isSimple (quantifier c x g f) = false
 
--- one part, and it passes a test
-abbrev pub soleIs : (Formula → Bool) → Formulas → Bool
-soleIs test noParts = false
-soleIs test (part f noParts) = test f
-soleIs test (part f (part g fs)) = false
-
 -- GNF is the form of `all`, disjunctive form that of `any`: below `|` and `?` no `&` or `!` stands
 abbrev pub permits : Side → Side → Bool
 permits all d = true
@@ -43,7 +37,7 @@ permits any any = true
 
 -- a connective of that form, where `parts d` says that the parts have the form of d
 abbrev pub connectiveForm : Side → (Side → Bool) → Connective → Formulas → Bool
-connectiveForm c parts negation fs = soleIs isSimple fs
+connectiveForm c parts negation fs = onSole false isSimple fs
 connectiveForm c parts implies fs = false
 connectiveForm c parts impliedBy fs = false
 connectiveForm c parts equivalent fs = false
@@ -83,7 +77,7 @@ isGroundAtom P (quantifier c x g f) = false
 
 -- one such negated, or `|` of one or more clauses
 abbrev pub connectiveClause : Problem → Bool → Connective → Formulas → Bool
-connectiveClause P parts negation fs = soleIs (isGroundAtom P) fs
+connectiveClause P parts negation fs = onSole false (isGroundAtom P) fs
 connectiveClause P parts implies fs = false
 connectiveClause P parts impliedBy fs = false
 connectiveClause P parts equivalent fs = false

@@ -7,7 +7,7 @@ use Rattle.text.specs.Outcome.{Outcome, done, refused, mapped}
 use Rattle.text.specs.Problem.{Name, Problem, isInput, given}
 use Rattle.text.specs.Derivation.{Rule, SNAND, SNOR, STN, EPRED, EPROP, IQ}
 use Rattle.logic.specs.Formula.{Term, Terms, noTerms, term, Side, all, any, negation, implies, impliedBy, equivalent, junction}
-use Rattle.logic.specs.Formula.{Formula, truth, atom, equal, connective, quantifier, Formulas, noParts, part, replace}
+use Rattle.logic.specs.Formula.{Formula, truth, atom, equal, connective, quantifier, Formulas, noParts, part, replace, onSole}
 use Rattle.logic.specs.Names.{closedBut}
 use Rattle.logic.specs.Normal.{isElementTerm, elementsOnly}
 use Rattle.logic.specs.Meaning.{inputStructure, nowhere, bind, valueOf, valuesOf, unit, elementsTo, holds}
@@ -25,16 +25,11 @@ module _ {A : Type 0} (otherwise : A) where
   onTruth k (connective o fs) = otherwise
   onTruth k (quantifier c x g f) = otherwise
 
-  abbrev pub onSole : (Formula → A) → Formulas → A
-  onSole k noParts = otherwise
-  onSole k (part f noParts) = k f
-  onSole k (part f (part g fs)) = otherwise
-
   abbrev pub onNegation : (Formula → A) → Formula → A
   onNegation k (truth b) = otherwise
   onNegation k (atom p ts) = otherwise
   onNegation k (equal s t) = otherwise
-  onNegation k (connective negation fs) = onSole k fs
+  onNegation k (connective negation fs) = onSole otherwise k fs
   onNegation k (connective implies fs) = otherwise
   onNegation k (connective impliedBy fs) = otherwise
   onNegation k (connective equivalent fs) = otherwise

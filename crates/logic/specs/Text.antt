@@ -5,7 +5,7 @@ use Rattle.text.specs.Bytes.{Bytes, bytes, next, same, every, isSmall, isSmallO
 use Rattle.text.specs.Numbers.{decimal}
 use Rattle.text.specs.Problem.{Name, isName}
 use Rattle.logic.specs.Formula.{Term, element, variable, Terms, noTerms, term, Side, all, any, Connective, negation, implies, impliedBy, equivalent, junction}
-use Rattle.logic.specs.Formula.{Formula, truth, atom, equal, connective, quantifier, Formulas, noParts, part}
+use Rattle.logic.specs.Formula.{Formula, truth, atom, equal, connective, quantifier, Formulas, noParts, part, onSole}
 
 abbrev pub truthText : Bool → Bytes
 truthText true = bytes "true"
@@ -73,9 +73,7 @@ termsSpelled noTerms = true
 termsSpelled (term t ts) = termSpelled t && termsSpelled ts
 
 abbrev pub isOne : Formulas → Bool
-isOne noParts = false
-isOne (part f noParts) = true
-isOne (part f (part g fs)) = false
+isOne fs = onSole false (λ f. true) fs
 
 abbrev pub isTwo : Formulas → Bool
 isTwo noParts = false

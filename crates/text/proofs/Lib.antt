@@ -25,4 +25,5 @@ pub mod RowsKept
 pub mod ProblemPlaces
 pub mod TableGrowth
 pub mod RowsLine
+pub mod Going
 pub mod ProblemLoop

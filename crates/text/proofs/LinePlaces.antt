@@ -15,7 +15,7 @@ use Rattle.text.specs.Bytes as bytes
 use Rattle.text.specs.Bytes.{Bytes, bytes, begins, isPrintable, span}
 use Rattle.text.specs.Outcome.{Outcome}
 use Rattle.text.specs.Reading.{Reader, refuse, give, token, _⇒_, oneOf, readNumber, separated}
-use Rattle.text.specs.Derivation.{Position, RuleLine, Line, step, inBounds, lineFits, isGrounder}
+use Rattle.text.specs.Derivation.{Position, RuleLine, Line, step, inBounds, isGrounder}
 use Rattle.text.specs.Derivation.{readRanged, readFormulaName, readPath, readPosition, atPosition, readSplit, readFooter, readLine}
 use Rattle.text.specs.Derivation.{versionText, readVersion, readGrounder}
 use Rattle.text.specs.memory.Found.{Found, Taken, Refused, WordFound}
@@ -30,9 +30,9 @@ use Rattle.text.specs.declared.rule_line.LineKind.the-variants as kind
 use Rattle.text.specs.declared.rule_line.LineRead.{LineRead}
 use Rattle.text.specs.declared.rule_line.LineRead.the-variants as line
 use Rattle.text.proofs.Bytes.{range-within, range-below, range-above}
-use Rattle.text.proofs.Derivation.{reads-ranged, reads-line}
+use Rattle.text.proofs.Derivation.{reads-ranged}
 use Rattle.text.proofs.Found.{found-give, found-taken, found-then, refused-first, refused-then, found-require, refused-require, word-found, found-word, refused-word, found-token, refused-token, found-later, refused-later, oneOf-this, oneOf-other, oneOf-only}
-use Rattle.text.proofs.Outcome.{Allowed, allowed-done}
+use Rattle.text.proofs.Outcome.{Allowed}
 use Rattle.text.proofs.Places.{next-inside}
 use Rattle.text.proofs.Reading.{span-split}
 use Rattle.text.proofs.Separated.{prepended, prepended-none, prepended-more, reads-shrinks, separated-refused, separated-last, separated-more}
@@ -310,10 +310,6 @@ module _ (text : Bytes) (at : ℕ) {tail : Reader Line} {mid : ℕ} (behind : Be
   line-told (line.Split name path steps names many next) told = (line-read (told .0), told .1)
   line-told (line.Footer names many next) told = (line-read (told .0), told .1)
   line-told line.Malformed told = line-refused told
-
--- what is read as a line fits
-pub line-fits : {text : Bytes} {at : ℕ} {l : Line} {next : ℕ} → Taken readLine text at l next → lineFits l ≡ true
-line-fits {text} {at} taken = allowed-done _ (readLine (drop at text)) _ (reads-line .sound (drop at text)) (taken .is) .0
 
 -- The heading.
 

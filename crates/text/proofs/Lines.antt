@@ -9,7 +9,7 @@ use mathlib.Core.Logic.{_↔_}
 use mathlib.Core.List.{[], _∷_, _++_, append-nil}
 use mathlib.Core.Bool.{Bool, true, false, cond, not}
 use lib.ListN.{length, take, drop, length-append}
-use lib.Seq.{take-append-seam, drop-append-add, drop-length}
+use lib.Seq.{take-append-seam, drop-append-add, drop-length, take-length}
 use borrow.Author.Tests.{not-true}
 use Rattle.text.specs.Bytes.{Bytes, every}
 use Rattle.text.specs.Outcome.{Outcome, done, refused, _>>=_}
@@ -152,15 +152,6 @@ abbrev pub lineCount : Bytes → ℕ
 lineCount [] = 0
 lineCount (b ∷ s) = cond (isLF b) (suc (lineCount s)) (max 1 (lineCount s))
 
-linesSize-within : (s : Bytes) (lines : ℕ) → linesSize s lines ≤ length s
-linesSize-within [] lines = omega arith
-linesSize-within (b ∷ s) zero = omega arith
-linesSize-within (b ∷ s) (suc lines) = omega (arith, linesSize-within s (cond (isLF b) lines (suc lines)))
-
-pub lineStart-within : (s : Bytes) (line : ℕ) → lineStart s line ≤ length s
-lineStart-within s zero = omega arith
-lineStart-within s (suc lines) = linesSize-within s lines
-
 no-LF-before : (s : Bytes) → every notLF (take (lineSize s) s) ≡ true
 no-LF-before [] = refl
 no-LF-before (b ∷ s) = pick (isLF b) refl (no-LF-before s)
@@ -175,6 +166,14 @@ refusedLine-no-LF s line = no-LF-before (drop (lineStart s line) s)
 pub lineStart-first : (s : Bytes) → lineStart s 1 ≡ 0
 lineStart-first [] = refl
 lineStart-first (b ∷ s) = refl
+
+-- a text without LF is one line
+lineSize-whole : (w : Bytes) → every notLF w ≡ true → lineSize w ≡ length w
+lineSize-whole [] e = refl
+lineSize-whole (b ∷ w) e = rw (not-true (isLF b) (and-left (notLF b) _ e), lineSize-whole w (and-right (notLF b) _ e))
+
+pub refusedLine-whole : (w : Bytes) → every notLF w ≡ true → refusedLine w 1 ≡ w
+refusedLine-whole w free = rw (lineStart-first w, lineSize-whole w free, take-length w)
 
 -- the first line of a text, and those after it
 module _ (t : Bytes) where

@@ -161,22 +161,22 @@ module _ (text : Bytes) (at : ℕ) where
       unfolding numberAt
       number-large h = record { number = value (digitsAt text at); found = number-found; large = omega (arith, told .value) }
 
--- Numbers one after the other, from the digits at their places.
+-- Numbers one after the other.
 
 pub length-numbersAt : (text : Bytes) (at many : ℕ) → length (numbersAt text at many) ≡ many
 unfolding numbersAt
 length-numbersAt text at zero = refl
 length-numbersAt text at (suc many) = ap suc (length-numbersAt text (numberEnd text at + 1) many)
 
-pub numbersAt-none : (text : Bytes) (at : ℕ) → numbersAt text at 0 ≡ []
+pub numbersAt-none : (text : Bytes) (at many : ℕ) → many ≡ 0 → numbersAt text at many ≡ []
 unfolding numbersAt
-numbersAt-none text at = refl
+numbersAt-none text at many e = rw e
 
-pub numbersAt-more : (text : Bytes) (at : ℕ) (d : Digits) → DigitsTold text at d → (many : ℕ) → 0 < many
-    → numbersAt text at many ≡ d .value ∷ numbersAt text (d .next + 1) (many - 1)
+-- the first of them, and the others
+pub numbersAt-more : (text : Bytes) (at many : ℕ) → 0 < many → numbersAt text at many ≡ numberAt text at ∷ numbersAt text (numberEnd text at + 1) (many - 1)
 unfolding numbersAt
-numbersAt-more text at d told zero h = absurd (omega arith)
-numbersAt-more text at d told (suc many) h = let e : suc many - 1 ≡ many = omega arith in rw (e, told .value, told .next)
+numbersAt-more text at zero h = absurd (omega arith)
+numbersAt-more text at (suc many) h = let e : suc many - 1 ≡ many = omega arith in rw e
 
 -- The text of a number, written.
 

@@ -1,14 +1,15 @@
 -- A problem's text, line after line: the definition's outcome is its outcome on the rest of the text, from the part that the table stands for.
 -- Assumes nothing.
-use Prim.Native.Nat.{ℕ, suc, zero, _+_, _-_, _≤_, _<_}
+use Prim.Native.Nat.{ℕ, suc, zero, _+_, _≤_, _<_}
 use native.Mathlib.Omega.{arith}
 use mathlib.Core.Path.{_≡_, refl, sym, subst, _∙_}
 use mathlib.Core.List.{List}
-use lib.ListN.{length, drop, length-drop, drop-of-length-le}
+use lib.ListN.{length}
 use Rattle.text.specs.Bytes.{Bytes}
-use Rattle.text.specs.Outcome.{done, refused, _>>=_}
-use Rattle.text.specs.Lines.{refusal, onLine, readLines}
+use Rattle.text.specs.Outcome.{done, refused}
+use Rattle.text.specs.Lines.{refusal, onLine}
 use Rattle.text.specs.Problem.{Predicate, Problem, Part, start, declaring, problemLine, readOutput, wholeProblem, problemOf}
+use Rattle.text.specs.memory.Going.{Going}
 use Rattle.text.specs.memory.Table.{indexed, tablePredicate, problemIn, outcomeOf}
 use Rattle.text.specs.memory.ProblemLines.{partAt, partIn, Standing, PartFound, ToldPart, LineTold, endNumber, Beginning, ProblemTold}
 use Rattle.text.specs.declared.problem_line.Stage.{Stage}
@@ -16,7 +17,7 @@ use Rattle.text.specs.declared.problem_line.Stage.the-variants.{Start, D
 use Rattle.text.specs.declared.problem_line.Progress.{Progress}
 use Rattle.text.specs.declared.problem_line.LineRead.{LineRead}
 use Rattle.text.specs.declared.problem_line.ProblemRead.{ProblemRead}
-use Rattle.text.proofs.Lines.{readLines-step, readLines-end}
+use Rattle.text.proofs.Going.{going-first, going-on, going-refused, going-end}
 use Rattle.text.proofs.Outcome.{allowed-done}
 use Rattle.text.proofs.Problem.{Valid}
 use Rattle.text.proofs.ProblemText.{problemOf-valid}
@@ -25,21 +26,16 @@ use Rattle.text.proofs.ProblemText.{problemOf-valid}
 
 -- what is read so far, and what is left from a place and a line on
 pub record ProblemGoing (text : Bytes) (p : Progress) (rows : List ℕ) (at line : ℕ) : Type 0 where
-  pub most : ℕ
-  pub is : problemOf text ≡ readLines 1 problemLine wholeProblem most line (partIn text p rows) (drop at text)
-  pub enough : length text ≤ most + at
+  pub going : Going 1 problemLine wholeProblem (problemOf text) text at line (partIn text p rows)
   pub standing : Standing text p rows
-  pub within : at ≤ length text
   pub lines : line ≤ at + 1
 
 module _ (text : Bytes) (p : Progress) (rows : List ℕ) where
-  pub going-first : Beginning p → ProblemGoing text p rows 0 1
+  pub problem-first : Beginning p → ProblemGoing text p rows 0 1
   unfolding problemOf problemIn indexed
-  going-first b =
+  problem-first b =
       record {
-        most = length text;
-        is = rw (b .stage);
-        enough = omega arith;
+        going = rw (b .stage) (going-first 1 problemLine wholeProblem text start);
         standing = record {
           staged = rw (b .stage) (b .inputs, b .count);
           few = omega (arith, b .count);
@@ -50,45 +46,40 @@ module _ (text : Bytes) (p : Progress) (rows : List ℕ) where
           short = omega (arith, b .used);
           stored = λ i h. absurd (omega (arith, b .inputs));
         };
-        within = omega arith;
         lines = omega arith;
       }
 
-  module _ (at line : ℕ) (going : ProblemGoing text p rows at line) where
+  module _ (at line : ℕ) (g : ProblemGoing text p rows at line) where
     module _ (more : at < length text) where
-      step : problemOf text
-          ≡ (onLine 1 line (problemLine (partIn text p rows) (drop at text)) >>= λ r. readLines 1 problemLine wholeProblem (going .most - 1) (line + 1) (r .0) (r .1))
-      step =
-          going .is ∙ readLines-step 1 problemLine wholeProblem (going .most) line (partIn text p rows) (drop at text)
-          (omega (arith, going .enough)) (omega (arith, length-drop at text))
-
-      pub going-refused : (number next : ℕ) (q : Progress) (new : List ℕ) → (number ≡ 0 → ⊥) → ToldPart (problemLine (partIn text p rows)) text at new number next q
+      pub problem-stopped : (number next : ℕ) (q : Progress) (new : List ℕ) → (number ≡ 0 → ⊥) → ToldPart (problemLine (partIn text p rows)) text at new number next q
           → ProblemTold text new (record { number = number; line = line; table = p .table })
       unfolding outcomeOf
-      going-refused zero next q new h f = absurd (h refl)
-      going-refused (suc number) next q new h f =
-          record { is = step ∙ rw (f .is); inside = going .standing .inside; few = going .standing .few }
-
-      pub going-on : (next : ℕ) (q : Progress) (new : List ℕ) → PartFound (problemLine (partIn text p rows)) text at new next q
-          → ProblemGoing text q new next (line + 1)
-      going-on next q new f =
+      problem-stopped zero next q new h f = absurd (h refl)
+      problem-stopped (suc number) next q new h f =
           record {
-            most = going .most - 1;
-            is = step ∙ rw (f .found .is);
-            enough = omega (arith, going .enough, f .found .after);
-            standing = f .standing;
-            within = f .found .within;
-            lines = omega (arith, going .lines, f .found .after);
+            is = going-refused 1 problemLine wholeProblem text (problemOf text) at line (partIn text p rows) (g .going) more (suc number) (f .is);
+            inside = g .standing .inside;
+            few = g .standing .few;
           }
 
-    pub going-end : length text ≤ at → ProblemTold text rows (record { number = endNumber (p .stage); line = line; table = p .table })
+      pub problem-on : (next : ℕ) (q : Progress) (new : List ℕ) → PartFound (problemLine (partIn text p rows)) text at new next q
+          → ProblemGoing text q new next (line + 1)
+      problem-on next q new f =
+          record {
+            going = going-on 1 problemLine wholeProblem text (problemOf text) at line (partIn text p rows) (g .going) more next (partIn text q new)
+                (f .found .is) (f .found .after) (f .found .within);
+            standing = f .standing;
+            lines = omega (arith, g .lines, f .found .after);
+          }
+
+    pub problem-end : length text ≤ at → ProblemTold text rows (record { number = endNumber (p .stage); line = line; table = p .table })
     unfolding outcomeOf
-    going-end h =
+    problem-end h =
         record {
-          is = going .is ∙ rw (drop-of-length-le text h, readLines-end 1 problemLine wholeProblem (going .most) line (partIn text p rows))
-              (pick (p .stage) (problemIn text (p .table) rows) (tablePredicate text (p .table) (p .table .count)));
-          inside = going .standing .inside;
-          few = going .standing .few;
+          is = going-end 1 problemLine wholeProblem text (problemOf text) at line (partIn text p rows) (g .going) h
+              ∙ pick (p .stage) (problemIn text (p .table) rows) (tablePredicate text (p .table) (p .table .count));
+          inside = g .standing .inside;
+          few = g .standing .few;
         }
       where
         pick : (stage : Stage) (P : Problem) (q : Predicate) → onLine 1 line (wholeProblem (partAt stage P q)) ≡ outcomeOf (endNumber stage) line P

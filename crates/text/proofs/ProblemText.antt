@@ -4,61 +4,22 @@
 use Prim.Native.Nat.{ℕ, suc, zero, _<_}
 use native.Mathlib.Omega.{arith}
 use mathlib.Core.Path.{_≡_, refl, sym, _∙_}
-use mathlib.Core.List.{List, [], _∷_, _++_, map, flatMap, append-nil, append-assoc}
+use mathlib.Core.List.{List, [], _∷_, _++_, flatMap, append-nil, append-assoc}
 use mathlib.Core.Bool.{true, false}
 use lib.ListN.{length, length-append}
-use Rattle.text.specs.Bytes.{Bytes, bytes, next, joined, isLetterOrDigit}
-use Rattle.text.specs.Numbers.{decimal}
+use Rattle.text.specs.Bytes.{Bytes, bytes, next, isLetterOrDigit}
 use Rattle.text.specs.Outcome.{Outcome, done, refused, provided}
 use Rattle.text.specs.Reading.{give, judge}
 use Rattle.text.specs.Lines.{isLF}
-use Rattle.text.specs.Problem.{Row, Predicate, Input, Problem, Relation, truthValue, tuples, withInput, withOutput}
+use Rattle.text.specs.Problem.{Row, Predicate, Problem, Relation, truthValue, tuples, withInput, withOutput}
 use Rattle.text.specs.Problem.{isName, domainFits, predicateFits, tuplesFit, rowsFor, readName, readDomain, readPredicate, readTuples, readRelation}
+use Rattle.text.specs.ProblemText.{domainText, predicateText, tuplesText, relationText, rowsText, relationOf, declarationText, inputText, outputText, problemText}
 use Rattle.text.specs.Problem.{Part, start, declaring, awaiting, closing, readInput, readOutput, problemLine, wholeProblem, problemOf}
 use Rattle.text.proofs.Outcome.{Allowed, allowed-mapped, allowed-weaken, allowed-done, allowed-any}
 use Rattle.text.proofs.Lines.{readText-reads}
 use Rattle.text.proofs.Problem.{Valid, valid-domain, valid-input, valid-output}
 use Rattle.text.proofs.Reading.{Reads, reads-give, reads-then, reads-weaken, reads-cond}
 use Rattle.text.proofs.Reading.{reads-require, reads-word, reads-token, reads-number, reads-oneOf, reads-separated}
-
-unfoldable pub domainText : ℕ → Bytes
-domainText n = bytes "domain=" ++ (decimal n ++ bytes "\n")
-
--- what follows `input=` or `output=`
-abbrev pub predicateText : Predicate → Bytes
-predicateText q = q .name ++ (bytes "/" ++ (decimal (q .arity) ++ bytes "\n"))
-
-abbrev pub rowText : Row → Bytes
-rowText row = joined 46 (map decimal row)
-
-abbrev pub tuplesText : List Row → Bytes
-tuplesText rows = joined 44 (map rowText rows)
-
-abbrev pub relationText : Relation → Bytes
-relationText (truthValue true) = bytes "true"
-relationText (truthValue false) = bytes "false"
-relationText (tuples rows) = tuplesText rows
-
-abbrev pub rowsText : Relation → Bytes
-rowsText r = bytes "rows=" ++ (relationText r ++ bytes "\n")
-
--- how the rows of a predicate of some arity are written
-abbrev pub relationOf : ℕ → List Row → Relation
-relationOf zero [] = truthValue false
-relationOf zero (row ∷ rows) = truthValue true
-relationOf (suc arity) rows = tuples rows
-
-unfoldable pub declarationText : Predicate → Bytes
-declarationText q = bytes "input=" ++ predicateText q
-
-unfoldable pub inputText : Input → Bytes
-inputText i = declarationText (i .predicate) ++ rowsText (relationOf (i .predicate .arity) (i .rows))
-
-unfoldable pub outputText : Predicate → Bytes
-outputText q = bytes "output=" ++ predicateText q
-
-unfoldable pub problemText : Problem → Bytes
-problemText P = domainText (P .domain) ++ (flatMap inputText (P .inputs) ++ flatMap outputText (P .outputs))
 
 -- The readers of a line's parts.
 

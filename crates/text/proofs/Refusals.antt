@@ -45,13 +45,6 @@ module _ {E : Type 0} {N : E → Type 0} where
   refuses-weaken k (never a) = never a
   refuses-weaken k (only n) = only (k _ n)
 
-  -- an outcome that is known
-  pub refuses-refused : {A : Type 0} {o : Outcome E A} {e : E} → Refuses N o → o ≡ refused e → N e
-  refuses-refused h p = holds (rw p at h)
-    where
-      holds : {A : Type 0} {e : E} → Refuses {A = A} N (refused e) → N e
-      holds (only n) = n
-
 -- what a search through outcomes goes by; and below, through readers
 pub ruleset outcomes = (never, only, refuses-bind, refuses-mapped, refuses-provided, refuses-cond)
 

@@ -15,7 +15,6 @@ use Rattle.text.specs.Bytes.{Bytes, same, member}
 use Rattle.text.specs.Problem.{Name, Row, Predicate, Problem, inputPredicates, predicates, named, declared, isInput, isOutput, rowsOf, given}
 use Rattle.text.specs.declared.table.Table.{Table}
 use Rattle.text.specs.memory.Table.{among, position, indexed, tableName, tableNames, tablePredicate, tableNumbers, tableInput, problemIn, packed}
-use Rattle.text.proofs.Laws.{same-refl, same-true}
 use Rattle.text.proofs.Packing.{Digits, among-member}
 use Rattle.text.proofs.Problem.{Valid, occurrences, isInput-not-isOutput}
 
@@ -126,20 +125,6 @@ module _ (p : Name) (f : ℕ → Name) where
       pick true k ih = refl
       pick false k ih = ap suc (ih (omega arith))
 
-  -- where it stands first, it is
-  position-is : (n i : ℕ) → position p (indexed f i n) < n → same p (f (i + position p (indexed f i n))) ≡ true
-  unfolding position indexed
-  position-is zero i h = absurd (omega arith)
-  position-is (suc n) i h = pick (same p (f i)) refl h (position-is n (suc i))
-    where
-      place : ℕ
-      place = position p (indexed f (suc i) n)
-
-      pick : (b : Bool) → same p (f i) ≡ b → cond b 0 (suc place) < suc n → (place < n → same p (f (suc i + place)) ≡ true)
-          → same p (f (i + cond b 0 (suc place))) ≡ true
-      pick true e k ih = rw (add-zero i, e)
-      pick false e k ih = let g : suc i + place ≡ i + suc place = omega arith in rw g at (ih (omega arith))
-
 named-append : (qs others : List Predicate) (p : Name) → named (qs ++ others) p ≡ (named qs p || named others p)
 named-append [] others p = refl
 named-append (q ∷ qs) others p = rw (named-append qs others p) (sym (or-assoc (same p (q .name)) (named qs p) (named others p)))
@@ -202,39 +187,6 @@ module _ (text : Bytes) (table : Table) (p : Name) where
       pick true k ih = rw (add-zero i)
       pick false k ih = ih (omega arith) ∙ ap held (omega arith)
 
--- A predicate's own name, which is there once.
-
-module _ (text : Bytes) (table : Table) where
-  abbrev own : ℕ → Name
-  own = tableName text table
-
-  occurs-own : (n i k : ℕ) → k < n → 1 ≤ occurrences (indexed (tablePredicate text table) i n) (own (i + k))
-  unfolding indexed
-  occurs-own zero i k h = absurd (omega arith)
-  occurs-own (suc n) i zero h = rw (add-zero i, same-refl (own i)) (omega arith)
-  occurs-own (suc n) i (suc k) h =
-      let g : suc i + k ≡ i + suc k = omega arith in
-      omega (arith, rw g at (occurs-own n (suc i) k (omega arith)))
-
-  position-own : (n i k : ℕ) → k < n → occurrences (indexed (tablePredicate text table) i n) (own (i + k)) ≤ 1 → position (own (i + k)) (indexed own i n) ≡ k
-  unfolding position indexed
-  position-own zero i k h once = absurd (omega arith)
-  position-own (suc n) i zero h once = rw (add-zero i, same-refl (own i))
-  position-own (suc n) i (suc k) h once =
-      let g : suc i + k ≡ i + suc k = omega arith in
-      pick (same (own (i + suc k)) (own i)) once (rw g at (occurs-own n (suc i) k (omega arith))) (rw g at (position-own n (suc i) k (omega arith)))
-    where
-      name : Name
-      name = own (i + suc k)
-
-      others : List Predicate
-      others = indexed (tablePredicate text table) (suc i) n
-
-      pick : (b : Bool) → cond b 1 0 + occurrences others name ≤ 1 → 1 ≤ occurrences others name
-          → (occurrences others name ≤ 1 → position name (indexed own (suc i) n) ≡ k) → cond b 0 (suc (position name (indexed own (suc i) n))) ≡ suc k
-      pick true f l ih = absurd (omega arith)
-      pick false f l ih = ap suc (ih (omega arith))
-
 -- The problem of a table: its predicates are those of the indices, so a name's place tells what the name is.
 
 module _ (text : Bytes) (table : Table) (rows : List ℕ) (inside : table .inputs ≤ table .count) where
@@ -256,21 +208,12 @@ module _ (text : Bytes) (table : Table) (rows : List ℕ) (inside : table .input
   unfolding problemIn
   domain-in = refl
 
-  -- each predicate's name leads back to its index
-  pub position-in : Valid P → (i : ℕ) → i < table .count → position (tableName text table i) (tableNames text table) ≡ i
-  position-in valid i h =
-      rw zero-add at (position-own text table (table .count) 0 i h (rw predicates-in at (valid .declares .once (tableName text table (0 + i)))))
-
   module _ (p : Name) where
     abbrev index : ℕ
     index = position p (tableNames text table)
 
     pub named-in : named (predicates P) p ≡ ltb index (table .count)
     named-in = rw predicates-in (named-indexed text table p (table .count) 0)
-
-    -- and where a name is found, it is the predicate's
-    pub name-in : index < table .count → tableName text table index ≡ p
-    name-in h = sym (same-true p (tableName text table index) (rw zero-add at (position-is p (tableName text table) (table .count) 0 h)))
 
     pub isInput-in : isInput P p ≡ ltb index (table .inputs)
     isInput-in =

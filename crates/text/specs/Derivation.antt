@@ -163,12 +163,12 @@ readFooter = do
   word 10 (bytes "\n")
   give (footer names)
 
-abbrev pub rules : List Rule
-rules = SNAND ∷ SNOR ∷ STN ∷ EPRED ∷ EPROP ∷ IQ ∷ []
+abbrev pub rewriteRules : List Rule
+rewriteRules = SNAND ∷ SNOR ∷ STN ∷ EPRED ∷ EPROP ∷ IQ ∷ []
 
 unfoldable pub lineKinds : List (Bytes × Reader Line)
 lineKinds =
-    map (λ r. (ruleText r ++ bytes " @ ") ⇒ atPosition (rewrite r)) rules
+    map (λ r. (ruleText r ++ bytes " @ ") ⇒ atPosition (rewrite r)) rewriteRules
     ++ (bytes "UNSAT @ " ⇒ atPosition unsat
     ∷ bytes "TRIVIAL - " ⇒ atPosition trivial
     ∷ bytes "SPLITC " ⇒ readSplit

@@ -5,5 +5,6 @@ pub mod Outcome
 pub mod Reading
 pub mod Lines
 pub mod Problem
+pub mod ProblemText
 pub mod Derivation
 pub mod memory

@@ -1,5 +1,6 @@
 pub mod Classes
 pub mod Found
+pub mod Going
 pub mod Numbers
 pub mod Table
 pub mod RuleLines

@@ -7,7 +7,7 @@ use mathlib.Core.Path.{_≡_, refl, subst, _∙_}
 use lib.ListN.{length}
 use Rattle.text.specs.Problem.{problemLine}
 use Rattle.text.specs.memory.ProblemLines.{partIn, PartFound, ToldPart}
-use Rattle.text.proofs.ProblemLoop.{ProblemGoing, going-first, going-refused, going-on, going-end}
+use Rattle.text.proofs.ProblemLoop.{ProblemGoing, problem-first, problem-stopped, problem-on, problem-end}
 use Rattle.text.proofs.problem_line.read_problem.Statement.{statement}
 use Rattle.text.proofs.problem_line.read_problem.Tie as tie
 
@@ -33,13 +33,13 @@ line-read c e =
 loop-holds : tie.Need-loop-holds Inv-loop μ-loop
 loop-holds c =
     let a = c .before .before .before .args in
-    (going-first (a .text .now) (c .beginning .result) (a .rows .now) (c .beginning .ensures), refl)
+    (problem-first (a .text .now) (c .beginning .result) (a .rows .now) (c .beginning .ensures), refl)
 
 line-at-requires : tie.Need-line-at-requires Inv-loop μ-loop
 line-at-requires c κs =
     let l = c .before .before .loop in
     let pre = c .before .before .before .before .before .before .pre in
-    (l .inv .0 .within, pre .0, l .inv .0 .standing, omega (arith, l .inv .1, pre .1))
+    (l .inv .0 .going .within, pre .0, l .inv .0 .standing, omega (arith, l .inv .1, pre .1))
 
 same-length : tie.Need-same-length Inv-loop μ-loop
 same-length c =
@@ -52,13 +52,13 @@ returns c =
     let l = read .before .before .before .loop in
     let a = read .before .before .before .before .before .before .before .args in
     let r = read .line-at .result in
-    going-refused (a .text .now) (l .progress) (l .rows) (l .at) (l .line) (l .inv .0) (read .before .before .loop-test .taken)
+    problem-stopped (a .text .now) (l .progress) (l .rows) (l .at) (l .line) (l .inv .0) (read .before .before .loop-test .taken)
     (r .number) (r .next) (r .progress) (read .line-at .last .1 .1 .1 .0) (c .before .if1 .taken) (read .line-at .ensures)
 
 add-line : tie.Need-add-line Inv-loop μ-loop
 add-line c =
     let going = c .before .before .before .before .before .before .before .before .loop .inv .0 in
-    omega (arith, going .lines, going .within, c .before .before .before .before .before .before .before .before .before .before .before .before .pre .0)
+    omega (arith, going .lines, going .going .within, c .before .before .before .before .before .before .before .before .before .before .before .before .pre .0)
 
 loop-less : tie.Need-loop-less Inv-loop μ-loop
 loop-less c =
@@ -71,7 +71,7 @@ loop-again c =
     let l = read .before .before .before .loop in
     let a = read .before .before .before .before .before .before .before .args in
     let r = read .line-at .result in (
-      going-on (a .text .now) (l .progress) (l .rows) (l .at) (l .line) (l .inv .0) (read .before .before .loop-test .taken)
+      problem-on (a .text .now) (l .progress) (l .rows) (l .at) (l .line) (l .inv .0) (read .before .before .loop-test .taken)
           (r .next) (r .progress) (read .line-at .last .1 .1 .1 .0) (line-read read (c .before .if1 .left)),
       read .line-at .kept .1 .1 .1 .0 ∙ l .inv .1,
     )
@@ -83,7 +83,7 @@ returns-2 : tie.Need-returns-2 Inv-loop μ-loop
 returns-2 c =
     let a = c .before .before .before .before .before .before .before .args in
     let l = c .before .before .before .loop in
-    rw (c .ended .ensures) (going-end (a .text .now) (l .progress) (l .rows) (l .at) (l .line) (l .inv .0) (c .before .before .loop-test .left))
+    rw (c .ended .ensures) (problem-end (a .text .now) (l .progress) (l .rows) (l .at) (l .line) (l .inv .0) (c .before .before .loop-test .left))
 
 pub read-problem-spec : {M : Type 1} → statement M
 read-problem-spec =
