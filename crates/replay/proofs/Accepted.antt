@@ -2,17 +2,18 @@
 -- Assumes nothing.
 use Prim.Native.Nat.{ℕ, _≤_}
 use native.Mathlib.Omega.{arith}
-use mathlib.Core.Path.{_≡_, refl, sym, ap, _∙_}
+use mathlib.Core.Path.{_≡_, refl, sym, ap, ap₂, _∙_}
 use mathlib.Core.List.{List, [], _∷_}
-use mathlib.Core.Bool.{Bool, true, false, not, false≢true}
+use mathlib.Core.Bool.{Bool, true, false, not, _&&_, false≢true}
 use lib.Dec.{leb}
 use lib.ListN.{length}
+use borrow.Author.Tests.{leb-true}
 use Rattle.text.specs.Sizes.{textSize, workSize, levelCount}
-use Rattle.text.specs.Bytes.{Bytes, same}
+use Rattle.text.specs.Bytes.{Bytes, same, every}
 use Rattle.text.specs.Outcome.{done, provided, _>>=_, _>>_}
 use Rattle.text.specs.Lines.{Refusal, Judged, refusal}
 use Rattle.text.specs.Problem.{Name, Problem, problemOf, isInput, isOutput}
-use Rattle.text.proofs.Laws.{and-left, and-right, same-refl, same-true, Each}
+use Rattle.text.proofs.Laws.{and-left, and-right, same-refl, same-true}
 use Rattle.text.proofs.Outcome.{Allowed, allowed-bind, allowed-weaken, allowed-provided, allowed-done, allowed-itself}
 use Rattle.text.proofs.Problem.{Valid, isInput-not-isOutput}
 use Rattle.text.proofs.ProblemText.{problemOf-valid}
@@ -115,10 +116,14 @@ module _ (problem theory derivation : Bytes) (P : Problem) (T : List Formula) (r
   unfolding holds
   final-unsat n used e = (rw e, λ S extends. final-same S extends ∙ rw e)
 
-  clauses-outputs : (fs : List Formula) → areClauses P fs ≡ true → Each (λ f. mentionsOnly (λ p. not (isInput P p)) f ≡ true) fs
-  clauses-outputs [] e = tt
-  clauses-outputs (f ∷ fs) e =
-      (clause-noInput P (λ p o. input-free p o) f (and-left _ _ e), clauses-outputs fs (and-right (isClause P f) _ e))
+  -- mentions no input predicate
+  abbrev plain : Formula → Bool
+  plain f = mentionsOnly (λ p. not (isInput P p)) f
+
+  clauses-plain : (fs : List Formula) → areClauses P fs ≡ true → every plain fs ≡ true
+  clauses-plain [] e = refl
+  clauses-plain (f ∷ fs) e =
+      ap₂ _&&_ (clause-noInput P (λ p o. input-free p o) f (and-left _ _ e)) (clauses-plain fs (and-right (isClause P f) _ e))
     where
       input-free : (p : Name) → isOutput P p ≡ true → isInput P p ≡ false
       input-free p o = pick (isInput P p) refl
@@ -128,13 +133,13 @@ module _ (problem theory derivation : Bytes) (P : Problem) (T : List Formula) (r
           pick false i = refl
 
   -- no final formula mentions an input predicate
-  pub final-outputs : Each (λ f. mentionsOnly (λ p. not (isInput P p)) f ≡ true) (finalFormulas g)
+  pub final-plain : every plain (finalFormulas g) ≡ true
   unfolding mentionsOnly
-  final-outputs = at (g .last) (g .ground)
+  final-plain = at (g .last) (g .ground)
     where
-      at : (s : State) → isGround P s ≡ true → Each (λ f. mentionsOnly (λ p. not (isInput P p)) f ≡ true) (formulasOf (liveTheory s))
-      at (live t used) e = clauses-outputs (formulasOf t) e
-      at (ended n used) e = (refl, tt)
+      at : (s : State) → isGround P s ≡ true → every plain (formulasOf (liveTheory s)) ≡ true
+      at (live t used) e = clauses-plain (formulasOf t) e
+      at (ended n used) e = refl
 
 -- The jobs.
 
@@ -176,22 +181,27 @@ module _ {A : Type 0} (Q : A → Type 0) where
   allowed-short o h (t ∷ ts) = allowed-after (t .0) (t .1) (tested ts o) (λ e. allowed-short o h ts)
 
 module _ (problem theory derivation : Bytes) (output work : List ℕ) where
-  pub replayed-judges : Allowed (Judges problem theory derivation) (replayed problem theory derivation output work)
+  -- the ground text has room
+  abbrev pub Placed : Ground → Type 0
+  Placed G = Judges problem theory derivation G × (length (groundText G) ≤ length output)
+
+  pub replayed-judges : Allowed Placed (replayed problem theory derivation output work)
   unfolding replayed
   replayed-judges =
-      allowed-short (Judges problem theory derivation) _
-      (allowed-bind (Judges problem theory derivation) (Judges problem theory derivation) _
-      (λ G j. allowed-after (Judges problem theory derivation) (leb (length (groundText G)) (length output)) (refusal 18 0 0) (done G) (λ r. j))
+      allowed-short Placed _
+      (allowed-bind (Judges problem theory derivation) Placed _
+      (λ G j. allowed-after Placed (leb (length (groundText G)) (length output)) (refusal 18 0 0) (done G) (λ r. (j, leb-true _ _ r)))
       (grounded problem theory derivation) (grounded-judges problem theory derivation))
       ((leb workSize (length work), refusal 1 0 0) ∷ (fits problem ∷ fits theory ∷ fits derivation ∷ []))
 
-  pub checked-judges : (claim : Bytes) → Allowed (λ G. Judges problem theory derivation G × (claim ≡ groundText G)) (checked problem theory derivation claim output work)
+  pub checked-judges : (claim : Bytes) → Allowed (λ G. Placed G × (claim ≡ groundText G)) (checked problem theory derivation claim output work)
   unfolding checked
   checked-judges claim =
-      let W : Ground → Type 0 = λ G. Judges problem theory derivation G × (claim ≡ groundText G) in
+      let W : Ground → Type 0 = λ G. Placed G × (claim ≡ groundText G) in
       allowed-short W _
       (allowed-bind (Judges problem theory derivation) W _
       (λ G j. allowed-after W (leb (length (groundText G)) (length output)) (refusal 18 0 0) _
-      (λ r. allowed-after W (same claim (groundText G)) (refusal 19 4 (differenceLine claim (groundText G))) (done G) (λ e. (j, same-true claim (groundText G) e))))
+      (λ r. allowed-after W (same claim (groundText G)) (refusal 19 4 (differenceLine claim (groundText G))) (done G)
+      (λ e. ((j, leb-true _ _ r), same-true claim (groundText G) e))))
       (grounded problem theory derivation) (grounded-judges problem theory derivation))
       ((leb workSize (length work), refusal 1 0 0) ∷ (fits problem ∷ fits theory ∷ fits derivation ∷ fits claim ∷ []))

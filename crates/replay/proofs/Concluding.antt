@@ -15,7 +15,6 @@ use Rattle.text.specs.Bytes.{Bytes, same}
 use Rattle.text.specs.Outcome.{done, refused, provided, _>>_}
 use Rattle.text.specs.Lines.{Refusal, refusal, Judged}
 use Rattle.text.proofs.Laws.{and-left, and-right}
-use Rattle.text.proofs.Outcome.{allowed-done}
 use Rattle.formula.specs.declared.cursor.Cursor.{Cursor}
 use Rattle.formula.specs.memory.Cursor.{firstCursor, Prints}
 use Rattle.formula.specs.memory.ClauseText.{clauseLines}
@@ -111,7 +110,7 @@ module _ (compare : Bool) (problem theory derivation claim : Bytes) (output work
       let f = t .accepted zero in
       told-same (rw (f .is))
       (c .told (f .ground) (f .text) (sym (f .rules)) (sym (f .formulas))
-      (allowed-done _ (grounded problem theory derivation) (f .ground) (ground-short problem theory derivation) (f .is)))
+      (ground-short problem theory derivation (f .ground) (f .is)))
 
 -- The texts' lengths.
 

@@ -1,36 +1,37 @@
 -- The demands on the jobs' answers. Demand 2: a derivation is accepted exactly if each line is allowed and its final formulas are the claim.
--- Demand 3: what is accepted means what the theory means. Every name in the statements is a definition of specs/.
+-- Demand 3: what is accepted means what the theory means. Every name in the public statements is a definition of specs/.
 -- Assumes nothing.
 use Prim.Native.Nat.{ℕ, _≤_}
-use native.Mathlib.Nat.{le-trans}
-use mathlib.Core.Path.{_≡_, sym, ap, _∙_, subst}
+use mathlib.Core.Path.{_≡_, refl, sym, ap, _∙_, subst}
 use mathlib.Core.Logic.{_↔_}
 use mathlib.Core.List.{List, [], _∷_, _++_}
 use mathlib.Core.Bool.{true, false, not}
 use lib.ListN.{length, drop}
 use borrow.Author.Tests.{le-leb}
-use Rattle.text.specs.Sizes.{textSize}
-use Rattle.text.specs.Bytes.{Bytes, same}
+use Rattle.text.specs.Sizes.{textSize, theorySize, formulaCount}
+use Rattle.text.specs.Bytes.{Bytes, bytes, same, every}
 use Rattle.text.specs.Outcome.{done}
 use Rattle.text.specs.Problem.{Problem, problemOf, isInput}
-use Rattle.text.proofs.Laws.{same-refl, Each}
-use Rattle.text.proofs.Outcome.{Allowed, allowed-weaken, allowed-done}
-use Rattle.logic.specs.Formula.{Formula, truth}
+use Rattle.text.proofs.Laws.{same-refl}
+use Rattle.text.proofs.Outcome.{allowed-done}
+use Rattle.logic.specs.Formula.{Formula, truth, size}
 use Rattle.logic.specs.Normal.{mentionsOnly}
-use Rattle.logic.specs.Meaning.{Structure, Extends, satisfies}
-use Rattle.replay.specs.Theory.{theoryOf, ended}
+use Rattle.logic.specs.Text.{textOf}
+use Rattle.logic.specs.Meaning.{Structure, Extends, holds, satisfies}
+use Rattle.replay.specs.Theory.{theoryOf, ended, liveTheory}
 use Rattle.replay.specs.Replay.{Ground, groundText}
-use Rattle.replay.specs.Answer.{grounded, replayed, checked, Result, workAfter, replayResult, checkResult}
-use Rattle.replay.specs.Accepted.{Grounds, finalFormulas, finalText, Fits, Equivalent}
+use Rattle.replay.specs.Answer.{grounded, replayed, checked, Result, replayResult, checkResult}
+use Rattle.replay.specs.Accepted.{Grounds, finalFormulas, finalText, accepts, Fits, Equivalent}
+use Rattle.replay.proofs.Theory.{length-names, length-formulas}
 use Rattle.replay.proofs.Refusals.{replayed-accepts, checked-accepts}
-use Rattle.replay.proofs.Accepted.{groundBy, GroundedBy, derivation-grounds, Judges, grounded-judges, replayed-judges, checked-judges, final-short, final-read, final-same, final-unsat, final-outputs}
+use Rattle.replay.proofs.Ground.{falsity-well, falsity-plain, read-ground}
+use Rattle.replay.proofs.Accepted.{groundBy, GroundedBy, derivation-grounds, Judges, grounded-judges, replayed-judges, checked-judges, final-short, final-read, final-same, final-unsat, final-plain}
 
 -- Under the limits a ground text has at most 65,536 bytes.
-pub ground-short : (problem theory derivation : Bytes) → Allowed (λ G. length (groundText G) ≤ textSize) (grounded problem theory derivation)
-ground-short problem theory derivation =
-    allowed-weaken (Judges problem theory derivation) (λ G. length (groundText G) ≤ textSize)
-    (λ G j. rw (j .is) (final-short problem theory derivation (j .P) (j .T) (j .readProblem) (j .readTheory) (j .grounds)))
-    (grounded problem theory derivation) (grounded-judges problem theory derivation)
+pub ground-short : (problem theory derivation : Bytes) (G : Ground) → grounded problem theory derivation ≡ done G → length (groundText G) ≤ textSize
+ground-short problem theory derivation G e =
+    let j = allowed-done _ (grounded problem theory derivation) G (grounded-judges problem theory derivation) e in
+    rw (j .is) (final-short problem theory derivation (j .P) (j .T) (j .readProblem) (j .readTheory) (j .grounds))
 
 judges-equivalent : (problem theory derivation : Bytes) (G : Ground) → Judges problem theory derivation G → Equivalent problem theory (groundText G)
 judges-equivalent problem theory derivation G j = rw (j .is) record {
@@ -51,13 +52,9 @@ judges-grounds problem theory derivation P T readProblem readTheory G j =
     let t : j .T ≡ T = cc (j .readTheory, readTheory, p) in
     subst (λ q. GroundedBy q T derivation G) p (subst (λ u. GroundedBy (j .P) u derivation G) t (j .grounds, j .is))
 
--- what the answer and the output are on acceptance
-abbrev pub accepts : {P : Problem} {T : List Formula} {derivation : Bytes} → Grounds P T derivation → List ℕ → List ℕ → Result
-accepts g output work = record {
-  answer = record { number = 0; file = 0; line = 0; rules = length (g .written .lines); formulas = length (finalFormulas g) };
-  output = finalText g ++ drop (length (finalText g)) output;
-  work = workAfter work;
-}
+-- as many names are listed as formulas are left
+listed-count : {P : Problem} {T : List Formula} {derivation : Bytes} (g : Grounds P T derivation) → length (finalFormulas g) ≡ length (g .written .final)
+listed-count g = rw (g .listed) (length-formulas (liveTheory (g .last)) ∙ sym (length-names (liveTheory (g .last))))
 
 module _ (problem theory derivation claim : Bytes) (output work : List ℕ) where
   -- Demand 3.
@@ -65,7 +62,7 @@ module _ (problem theory derivation claim : Bytes) (output work : List ℕ) wher
   demand-three e =
       let a = checked-accepts problem theory derivation claim output work .0 e in
       let j = allowed-done _ (checked problem theory derivation claim output work) (a .0) (checked-judges problem theory derivation output work claim) (a .1) in
-      rw (j .1) (judges-equivalent problem theory derivation (a .0) (j .0))
+      rw (j .1) (judges-equivalent problem theory derivation (a .0) (j .0 .0))
 
   -- With a valid problem and theory.
   module _ (P : Problem) (T : List Formula) (readProblem : problemOf problem ≡ done P) (readTheory : theoryOf P theory ≡ done T) where
@@ -75,31 +72,34 @@ module _ (problem theory derivation claim : Bytes) (output work : List ℕ) wher
     demand-three-unsat = final-unsat problem theory derivation P T readProblem readTheory
 
     -- No final formula mentions an input predicate.
-    pub demand-three-outputs : (g : Grounds P T derivation) → Each (λ f. mentionsOnly (λ p. not (isInput P p)) f ≡ true) (finalFormulas g)
-    demand-three-outputs = final-outputs problem theory derivation P T readProblem readTheory
+    pub demand-three-outputs : (g : Grounds P T derivation) → every (λ f. mentionsOnly (λ p. not (isInput P p)) f) (finalFormulas g) ≡ true
+    demand-three-outputs = final-plain problem theory derivation P T readProblem readTheory
 
-    -- Texts within their sizes and buffers long enough.
-    module _ (fits : Fits problem theory derivation claim output work) where
-      grounds-checked : (g : Grounds P T derivation) → claim ≡ finalText g → checked problem theory derivation claim output work ≡ done (groundBy g)
+    -- Texts within their sizes and working memory long enough; the output is long enough where it is as long as the final formulas' text.
+    module _ (fits : Fits problem theory derivation claim work) where
+      grounds-checked : (g : Grounds P T derivation) → claim ≡ finalText g → length (finalText g) ≤ length output
+          → checked problem theory derivation claim output work ≡ done (groundBy g)
       unfolding checked
-      grounds-checked g e =
-          let short = final-short problem theory derivation P T readProblem readTheory g in
-          rw (le-leb _ _ (fits .longWork), le-leb _ _ (fits .shortProblem), le-leb _ _ (fits .shortTheory), le-leb _ _ (fits .shortDerivation), le-leb _ _ (fits .shortClaim), readProblem, readTheory, derivation-grounds P T derivation g, le-leb _ _ (le-trans short (fits .longOutput)), e, same-refl (finalText g))
+      grounds-checked g e long =
+          rw (le-leb _ _ (fits .longWork), le-leb _ _ (fits .shortProblem), le-leb _ _ (fits .shortTheory), le-leb _ _ (fits .shortDerivation), le-leb _ _ (fits .shortClaim), readProblem, readTheory, derivation-grounds P T derivation g, le-leb _ _ long, e, same-refl (finalText g))
 
       -- Demand 2, with what is answered and left.
-      pub demand-two-result : (g : Grounds P T derivation) → claim ≡ finalText g → checkResult problem theory derivation claim output work ≡ accepts g output work
-      demand-two-result g e = rw (grounds-checked g e)
+      pub demand-two-result : (g : Grounds P T derivation) → claim ≡ finalText g → length (finalText g) ≤ length output
+          → checkResult problem theory derivation claim output work ≡ accepts g output work
+      demand-two-result g e long = rw (grounds-checked g e long, ← listed-count g)
 
       -- Demand 2.
-      pub demand-two : (checkResult problem theory derivation claim output work .answer .number ≡ 0) ↔ ((g : Grounds P T derivation) × (claim ≡ finalText g))
-      demand-two = (there, λ (g, e). ap (λ (r : Result). r .answer .number) (demand-two-result g e))
+      pub demand-two : (checkResult problem theory derivation claim output work .answer .number ≡ 0)
+          ↔ ((g : Grounds P T derivation) × (claim ≡ finalText g) × (length (finalText g) ≤ length output))
+      demand-two = (there, λ (g, e, long). ap (λ (r : Result). r .answer .number) (demand-two-result g e long))
         where
-          there : checkResult problem theory derivation claim output work .answer .number ≡ 0 → (g : Grounds P T derivation) × (claim ≡ finalText g)
+          there : checkResult problem theory derivation claim output work .answer .number ≡ 0
+              → (g : Grounds P T derivation) × (claim ≡ finalText g) × (length (finalText g) ≤ length output)
           there e =
               let a = checked-accepts problem theory derivation claim output work .0 e in
               let j = allowed-done _ (checked problem theory derivation claim output work) (a .0) (checked-judges problem theory derivation output work claim) (a .1) in
-              let g = judges-grounds problem theory derivation P T readProblem readTheory (a .0) (j .0) in
-              (g .0, j .1 ∙ ap groundText (g .1))
+              let g = judges-grounds problem theory derivation P T readProblem readTheory (a .0) (j .0 .0) in
+              (g .0, j .1 ∙ ap groundText (g .1), subst (λ (G : Ground). length (groundText G) ≤ length output) (g .1) (j .0 .1))
 
 -- The job replay: the same without a claim.
 module _ (problem theory derivation : Bytes) (output work : List ℕ) where
@@ -108,29 +108,34 @@ module _ (problem theory derivation : Bytes) (output work : List ℕ) where
   replay-three e =
       let a = replayed-accepts problem theory derivation output work .0 e in
       let j = allowed-done _ (replayed problem theory derivation output work) (a .0) (replayed-judges problem theory derivation output work) (a .1) in
-      (a .0, judges-equivalent problem theory derivation (a .0) j, rw (a .1))
+      (a .0, judges-equivalent problem theory derivation (a .0) (j .0), rw (a .1))
 
-  module _ (P : Problem) (T : List Formula) (readProblem : problemOf problem ≡ done P) (readTheory : theoryOf P theory ≡ done T) (fits : Fits problem theory derivation [] output work) where
-    pub replay-two-result : (g : Grounds P T derivation) → replayResult problem theory derivation output work ≡ accepts g output work
+  module _ (P : Problem) (T : List Formula) (readProblem : problemOf problem ≡ done P) (readTheory : theoryOf P theory ≡ done T) (fits : Fits problem theory derivation [] work) where
+    pub replay-two-result : (g : Grounds P T derivation) → length (finalText g) ≤ length output → replayResult problem theory derivation output work ≡ accepts g output work
     unfolding replayed
-    replay-two-result g =
-        let short = final-short problem theory derivation P T readProblem readTheory g in
-        rw (le-leb _ _ (fits .longWork), le-leb _ _ (fits .shortProblem), le-leb _ _ (fits .shortTheory), le-leb _ _ (fits .shortDerivation), readProblem, readTheory, derivation-grounds P T derivation g, le-leb _ _ (le-trans short (fits .longOutput)))
+    replay-two-result g long =
+        rw (le-leb _ _ (fits .longWork), le-leb _ _ (fits .shortProblem), le-leb _ _ (fits .shortTheory), le-leb _ _ (fits .shortDerivation), readProblem, readTheory, derivation-grounds P T derivation g, le-leb _ _ long, ← listed-count g)
 
-    pub replay-two : (replayResult problem theory derivation output work .answer .number ≡ 0) ↔ Grounds P T derivation
-    replay-two = (there, λ g. ap (λ (r : Result). r .answer .number) (replay-two-result g))
+    pub replay-two : (replayResult problem theory derivation output work .answer .number ≡ 0) ↔ ((g : Grounds P T derivation) × (length (finalText g) ≤ length output))
+    replay-two = (there, λ (g, long). ap (λ (r : Result). r .answer .number) (replay-two-result g long))
       where
-        there : replayResult problem theory derivation output work .answer .number ≡ 0 → Grounds P T derivation
+        there : replayResult problem theory derivation output work .answer .number ≡ 0 → (g : Grounds P T derivation) × (length (finalText g) ≤ length output)
         there e =
             let a = replayed-accepts problem theory derivation output work .0 e in
             let j = allowed-done _ (replayed problem theory derivation output work) (a .0) (replayed-judges problem theory derivation output work) (a .1) in
-            judges-grounds problem theory derivation P T readProblem readTheory (a .0) j .0
+            let g = judges-grounds problem theory derivation P T readProblem readTheory (a .0) (j .0) in
+            (g .0, subst (λ (G : Ground). length (groundText G) ≤ length output) (g .1) (j .1))
 
--- Any two outcomes that a job's promise allows are equal: each is the one that the definition names.
-pub check-once : (problem theory derivation claim : Bytes) (output work : List ℕ) (r s : Result)
-    → r ≡ checkResult problem theory derivation claim output work → s ≡ checkResult problem theory derivation claim output work → r ≡ s
-check-once problem theory derivation claim output work r s p q = p ∙ sym q
+read-false : (P : Problem) → theoryOf P (bytes "false\n") ≡ done (truth false ∷ [])
+unfolding textOf size theorySize formulaCount
+read-false P = read-ground P (truth false ∷ []) (falsity-plain P, tt) (falsity-well P, tt) refl
 
-pub replay-once : (problem theory derivation : Bytes) (output work : List ℕ) (r s : Result)
-    → r ≡ replayResult problem theory derivation output work → s ≡ replayResult problem theory derivation output work → r ≡ s
-replay-once problem theory derivation output work r s p q = p ∙ sym q
+-- What is equivalent to `false` alone holds in no structure that extends the input structure.
+pub false-nowhere : (problem theory : Bytes) → Equivalent problem theory (bytes "false\n") → (P : Problem) (T : List Formula) → problemOf problem ≡ done P
+    → theoryOf P theory ≡ done T → (S : Structure) → Extends P S → satisfies S T ≡ false
+unfolding holds
+false-nowhere problem theory e P T readProblem readTheory S extends =
+    let p : e .P ≡ P = cc (e .readProblem, readProblem) in
+    let t : e .T ≡ T = cc (e .readTheory, readTheory, p) in
+    let f : e .G ≡ truth false ∷ [] = cc (e .readGround, read-false (e .P)) in
+    ap (satisfies S) (sym t) ∙ e .same S (rw p extends) ∙ ap (satisfies S) f

@@ -90,7 +90,7 @@ module _ (P : Problem) where
     pub unguarded : guardQuantifiers f ≡ 0
     pub short : suc (length (textOf f)) ≤ 16 * size f
 
-  falsity-plain : Plain (truth false)
+  pub falsity-plain : Plain (truth false)
   unfolding spelled hasForm variables guardQuantifiers textOf size
   falsity-plain = record { wellSpelled = refl; normal = refl; unbound = refl; unguarded = refl; short = omega arith }
 

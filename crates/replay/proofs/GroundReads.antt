@@ -40,11 +40,13 @@ use Rattle.replay.specs.declared.live.Layout.{Layout}
 use Rattle.replay.specs.declared.grounding.Grounded.{Grounded}
 use Rattle.replay.proofs.NameLists.{region-length}
 use Rattle.replay.proofs.Regions.{within-front, slice-behind, within-end, end-part, slice-before, put-end}
-use Rattle.replay.proofs.HeldWords.{heldOf, length-names, length-formulas}
+use Rattle.replay.proofs.HeldWords.{heldOf}
 use Rattle.replay.proofs.HeldEnd.{lines-held}
 use Rattle.replay.proofs.HeldReplay.{Ends, held-ends, held-refused, Accepted, end-accepted, end-refused}
 use Rattle.replay.proofs.Begins.{Begun, begun}
-use Rattle.replay.proofs.Refusals.{Listed, grounded-refuses}
+use Rattle.replay.specs.Refused.{Listed}
+use Rattle.replay.proofs.Theory.{length-names, length-formulas}
+use Rattle.replay.proofs.Refusals.{grounded-refuses}
 
 length-countFrom : (n k : ℕ) → length (countFrom k n) ≡ n
 length-countFrom zero k = refl

@@ -37,11 +37,11 @@ use Rattle.replay.specs.Theory.{entry, Theory, formulasOf, namesOf, numb
 use Rattle.replay.specs.Theory.{unlessEnded, removed, refuted, split, climbing, highest, within, stepped}
 use Rattle.replay.specs.Steps.{Step, go, stop}
 use Rattle.replay.specs.memory.Held.{held, rewrittenIn, openedIn, removedIn, isSplit, splitIn, refutedIn}
-use Rattle.replay.proofs.Theory.{EachPart, each-back}
+use Rattle.replay.proofs.Theory.{EachPart, each-back, names-append}
 use Rattle.replay.proofs.Steps.{stepped-step}
 use Rattle.replay.proofs.Soundness.{Live, steps-every}
 use Rattle.replay.proofs.Ground.{Well, formulas-numbered, steps-sized, steps-well}
-use Rattle.replay.proofs.HeldWords.{names-append, isOver, theoryWords, liveWords, heldOf, words-append, names-few, within-words}
+use Rattle.replay.proofs.HeldWords.{isOver, theoryWords, liveWords, heldOf, words-append, names-few, within-words}
 use Rattle.replay.proofs.HeldTargets.{Located, located-names, Aim, nobody, nowhere, somewhere, aimed, Whole, never, entire, aimed-whole, always-refused}
 use Rattle.replay.proofs.HeldRules.{putIn, made-held}
 use Rattle.replay.proofs.HeldWhole.{truth-told, Split, unsplit, parted, split-told, located-word, opened-held}

@@ -26,8 +26,9 @@ use Rattle.formula.proofs.memory.ClauseText.{Printable, clauseLines-words, clau
 use Rattle.formula.proofs.memory.GroundTable.{table-named, clauseAt-table}
 use Rattle.replay.specs.Theory.{formulasOf, State, live, ended, liveTheory}
 use Rattle.replay.specs.Replay.{areClauses, isGround, theoryText}
+use Rattle.replay.proofs.Theory.{length-names, length-formulas}
 use Rattle.replay.proofs.Ground.{Well}
-use Rattle.replay.proofs.HeldWords.{length-names, length-formulas, theoryWords, heldOf}
+use Rattle.replay.proofs.HeldWords.{theoryWords, heldOf}
 use Rattle.replay.proofs.Held.{Sound}
 
 module _ (N : Naming) (text : Bytes) (table : Table) (rows : List ℕ) (inside : table .inputs ≤ table .count)

@@ -25,8 +25,9 @@ use Rattle.replay.specs.Theory.{Entry, entry, Theory, namesOf, State, li
 use Rattle.replay.specs.Steps.{position}
 use Rattle.replay.specs.memory.Names.{indexIn}
 use Rattle.replay.specs.memory.Held.{reached, targetIn, wholeIn}
+use Rattle.replay.proofs.Theory.{names-append, length-names}
 use Rattle.replay.proofs.NameLists.{index-none, index-here, index-later}
-use Rattle.replay.proofs.HeldWords.{names-append, length-names, liveWords, heldOf, words-append, skip-live}
+use Rattle.replay.proofs.HeldWords.{liveWords, heldOf, words-append, skip-live}
 
 mapped-mapped : {A B C : Type 0} (g : B → C) (f : A → B) (o : Outcome ℕ A) → mapped g (mapped f o) ≡ mapped (λ a. g (f a)) o
 mapped-mapped g f (done a) = refl

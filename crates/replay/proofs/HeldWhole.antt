@@ -1,7 +1,7 @@
 -- What TRIVIAL, UNSAT and SPLITC ask of a formula in memory: its first word tells whether it is a truth value or an `&` of so many parts. Without that
 -- word the parts' words are left, under the parts' names.
 -- Assumes nothing.
-use Prim.Native.Nat.{ℕ, suc, _+_, _*_, _≤_, _<_}
+use Prim.Native.Nat.{ℕ, suc, _+_, _*_, _≤_}
 use native.Mathlib.Omega.{arith}
 use mathlib.Core.Path.{_≡_, refl, sym, ap, _∙_}
 use mathlib.Core.List.{List, [], _∷_, _++_}
@@ -12,40 +12,20 @@ use lib.Seq.{take-length}
 use borrow.Author.Tests.{eq-eqb, ne-eqb, eqb-true, eqb-false, leb-true, leb-false, le-leb, lt-leb}
 use Rattle.text.specs.Outcome.{done, refused, mapped, provided, _>>_}
 use Rattle.text.proofs.Places.{next-within}
-use Rattle.logic.specs.Formula.{termCount, Side, all, any, Connective, negation, implies, impliedBy, equivalent, junction}
+use Rattle.logic.specs.Formula.{termCount, all, any, negation, implies, impliedBy, equivalent, junction}
 use Rattle.logic.specs.Formula.{Formula, truth, atom, equal, connective, quantifier, Formulas, noParts, part, partsOf}
 use Rattle.logic.specs.Limits.{sizesFit}
 use Rattle.logic.specs.Rules.{isTruth}
 use Rattle.formula.specs.memory.Kinds.{kindOf}
-use Rattle.formula.specs.memory.Words.{truthWord, connectiveTag, quantifierTag, partTotal, words}
+use Rattle.formula.specs.memory.Words.{partTotal, words}
 use Rattle.formula.proofs.memory.Naming.{Naming, wordsIn}
 use Rattle.formula.proofs.memory.Words.{kind-truth, kind-atom, kind-equal, kind-connective, kind-quantifier}
 use Rattle.formula.proofs.memory.Rewriting.{spliced-middle}
 use Rattle.replay.specs.Theory.{entry, Theory, formulasOf, namesOf, namedParts, split, within}
-use Rattle.replay.specs.memory.Held.{held, exchanged, openedIn, isSplit}
-use Rattle.replay.proofs.HeldWords.{names-append, length-names, liveWords, heldOf, words-append, words-few, within-names}
+use Rattle.replay.specs.memory.Held.{held, exchanged, openedIn, isValue, isSplit}
+use Rattle.replay.proofs.Theory.{names-append, length-names}
+use Rattle.replay.proofs.HeldWords.{liveWords, heldOf, words-append, words-few, within-names}
 use Rattle.replay.proofs.HeldTargets.{Located, located-words, located-names, located-stands}
-
--- The first word of a truth value.
-
-truth-low : (b : Bool) → truthWord b ≤ 1
-truth-low true = omega arith
-truth-low false = omega arith
-
-connective-high : (o : Connective) → 1 < connectiveTag o
-connective-high negation = omega arith
-connective-high implies = omega arith
-connective-high impliedBy = omega arith
-connective-high equivalent = omega arith
-connective-high (junction all) = omega arith
-connective-high (junction any) = omega arith
-
-quantifier-high : (c : Side) → 1 < quantifierTag c
-quantifier-high all = omega arith
-quantifier-high any = omega arith
-
-no-truth : (word : ℕ) (b : Bool) → 1 < word → eqb word (truthWord b) ≡ false
-no-truth word b h = ne-eqb word (truthWord b) (λ e. omega (arith, truth-low b))
 
 -- a list of parts and as many names, or not
 data Sharing (names : List ℕ) (fs : Formulas) : Type 0 where
@@ -67,16 +47,14 @@ sharing (n ∷ ns) (part f fs) = pick (sharing ns fs)
         (ap (λ (ms : List ℕ). n ∷ ms) names) (ap (part f) parts)
 
 module _ (N : Naming) where
-  pub truth-told : (b : Bool) (f : Formula) (rest : List ℕ) → eqb (getD (wordsIn N f ++ rest) 0 0) (truthWord b) ≡ isTruth b f
+  -- whether a formula is a truth value, by its first word
+  pub truth-told : (b : Bool) (f : Formula) (rest : List ℕ) → isValue b (kindOf (getD (wordsIn N f ++ rest) 0 0)) ≡ isTruth b f
   unfolding words
-  truth-told true (truth true) rest = refl
-  truth-told true (truth false) rest = refl
-  truth-told false (truth true) rest = refl
-  truth-told false (truth false) rest = refl
-  truth-told b (atom p ts) rest = no-truth ((termCount ts * 256 + N .predicateIndex p) * 16 + 10) b (omega arith)
-  truth-told b (equal t u) rest = no-truth 11 b (omega arith)
-  truth-told b (connective o fs) rest = no-truth (partTotal fs * 16 + connectiveTag o) b (omega (arith, connective-high o))
-  truth-told b (quantifier c x g f) rest = no-truth (N .variableIndex x * 16 + quantifierTag c) b (omega (arith, quantifier-high c))
+  truth-told b (truth c) rest = rw (kind-truth c)
+  truth-told b (atom p ts) rest = rw (kind-atom (N .predicateIndex p) (termCount ts) (N .small p))
+  truth-told b (equal t u) rest = rw kind-equal
+  truth-told b (connective o fs) rest = rw (kind-connective o (partTotal fs))
+  truth-told b (quantifier c x g f) rest = rw (kind-quantifier c (N .variableIndex x))
 
   -- what SPLITC makes of a formula, by its first word
   pub data Split (names : List ℕ) (f : Formula) (word : ℕ) : Type 0 where

@@ -3,10 +3,10 @@
 -- Assumes nothing.
 use Prim.Native.Nat.{ℕ, _≤_}
 use mathlib.Core.Path.{_≡_, refl, sym, ap, _∙_}
-use mathlib.Core.List.{List, [], _∷_, _++_, append-assoc, map-append}
+use mathlib.Core.List.{List, [], _∷_, _++_, append-assoc}
 use mathlib.Core.Bool.{Bool, true, false, _&&_, and-true}
 use lib.Dec.{leb}
-use lib.ListN.{length, length-append, length-map}
+use lib.ListN.{length, length-append}
 use borrow.Author.Tests.{leb-true, le-leb}
 use Rattle.text.specs.Sizes.{formulaCount, theorySize}
 use Rattle.text.specs.Outcome.{done, mapped, provided, _>>_}
@@ -18,17 +18,9 @@ use Rattle.formula.specs.memory.Words.{words}
 use Rattle.formula.proofs.memory.Kinds.{skip-none}
 use Rattle.formula.proofs.memory.Naming.{Naming, allWordsIn}
 use Rattle.formula.proofs.memory.Words.{length-words, skip-words}
-use Rattle.replay.specs.Theory.{Entry, Theory, formulasOf, namesOf, State, live, ended, liveTheory, greatestUsed, within}
+use Rattle.replay.specs.Theory.{Theory, formulasOf, namesOf, State, live, ended, liveTheory, greatestUsed, within}
 use Rattle.replay.specs.memory.Held.{Held, held}
-
-pub names-append : (t u : Theory) → namesOf (t ++ u) ≡ namesOf t ++ namesOf u
-names-append t u = map-append (λ (e : Entry). e .name) t u
-
-pub length-names : (t : Theory) → length (namesOf t) ≡ length t
-length-names t = length-map t (λ (e : Entry). e .name)
-
-pub length-formulas : (t : Theory) → length (formulasOf t) ≡ length t
-length-formulas t = length-map t (λ (e : Entry). e .formula)
+use Rattle.replay.proofs.Theory.{length-names, length-formulas}
 
 -- UNSAT was
 abbrev pub isOver : State → Bool

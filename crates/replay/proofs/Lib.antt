@@ -21,7 +21,6 @@ pub mod HeldRules
 pub mod HeldWhole
 pub mod Held
 pub mod HeldEnd
-pub mod Going
 pub mod Turns
 pub mod Simulation
 pub mod HeldReplay

@@ -9,6 +9,7 @@ use borrow.Rule.Slice.PartMut.{putMid}
 use lib.ListN.{length, take, drop, set, length-set, length-drop}
 use lib.Seq.{slice, length-take-le, length-front, take-take, take-set-le, take-set-lt, drop-set-lt, take-suc-set, drop-cons, getD-set-same}
 use Rattle.text.specs.Outcome.{Outcome, done, refused}
+use Rattle.formula.specs.memory.Words.{truthWord}
 use Rattle.formula.specs.memory.Storing.{spliced}
 use Rattle.formula.specs.memory.Rewriting.{endWithin, rewrittenWords}
 use Rattle.formula.specs.declared.decide.Fit.{Fit}
@@ -72,11 +73,12 @@ moved-as outcome other layout old live work e t = subst (λ (o : Outcome ℕ Hel
 
 -- UNSAT
 module _ (layout : Layout) (live : Live) (old : List ℕ) (arranged : Arranged layout (length old)) where
-  pub falsified-moved : (name : ℕ) → Moved (done (held (0 ∷ []) (name ∷ []) (live .top) true)) layout old (record { count = 1; full = 1; top = live .top; ended = true }) (set (set old 0 0) (layout .names) name)
-  falsified-moved name =
-      let one = set old 0 0 in
-      let long : length one ≡ length old = length-set old 0 0 in
-      let w : take 1 (set one (layout .names) name) ≡ 0 ∷ [] = take-set-le 1 one (layout .names) name (omega (arith, arranged)) ∙ take-suc-set old 0 0 (omega (arith, arranged)) in
+  pub falsified-moved : (word name : ℕ) → word ≡ truthWord false → Moved (done (held (truthWord false ∷ []) (name ∷ []) (live .top) true)) layout old (record { count = 1; full = 1; top = live .top; ended = true }) (set (set old 0 word) (layout .names) name)
+  falsified-moved word name is =
+      let one = set old 0 word in
+      let long : length one ≡ length old = length-set old 0 word in
+      let w : take 1 (set one (layout .names) name) ≡ truthWord false ∷ [] =
+      take-set-le 1 one (layout .names) name (omega (arith, arranged)) ∙ take-suc-set old 0 word (omega (arith, arranged)) ∙ ap (λ (k : ℕ). k ∷ []) is in
       let n : take 1 (drop (layout .names) (set one (layout .names) name)) ≡ name ∷ [] =
       ap (take 1) (drop-cons (set one (layout .names) name) (layout .names) 0 (rw length-set (omega (arith, arranged, long))))
       ∙ ap (λ (k : ℕ). k ∷ []) (getD-set-same one (layout .names) name 0 (omega (arith, arranged, long))) in
@@ -86,10 +88,10 @@ module _ (layout : Layout) (live : Live) (old : List ℕ) (arranged : Arranged l
         rows = ap (drop (layout .rows)) (take-set-le (layout .names) one (layout .names) name (omega arith)) ∙ slice-set;
       }
     where
-      slice-set : slice (layout .rows) (layout .names) (set old 0 0) ≡ slice (layout .rows) (layout .names) old
+      slice-set : slice (layout .rows) (layout .names) (set old 0 word) ≡ slice (layout .rows) (layout .names) old
       slice-set =
-          ap (drop (layout .rows)) (take-set-lt (layout .names) old 0 0 (omega (arith, arranged)))
-          ∙ drop-set-lt (layout .rows) (take (layout .names) old) 0 0 (omega (arith, arranged))
+          ap (drop (layout .rows)) (take-set-lt (layout .names) old 0 word (omega (arith, arranged)))
+          ∙ drop-set-lt (layout .rows) (take (layout .names) old) 0 word (omega (arith, arranged))
 
 -- TRIVIAL and SPLITC
 module _ (layout : Layout) (live : Live) (old : List ℕ) (arranged : Arranged layout (length old)) (few : Few live) (index at : ℕ)

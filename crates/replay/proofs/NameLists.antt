@@ -1,6 +1,6 @@
 -- Lists of names in memory and in a text, one name after the other.
 -- Assumes nothing.
-use Prim.Native.Nat.{ℕ, zero, suc, _+_, _-_, _≤_, _<_}
+use Prim.Native.Nat.{ℕ, zero, suc, _+_, _≤_, _<_}
 use native.Mathlib.Numerals.{add-one}
 use native.Mathlib.Omega.{arith}
 use mathlib.Core.Path.{_≡_, refl, ap, _∙_}
@@ -8,10 +8,9 @@ use mathlib.Core.List.{List, [], _∷_, _++_}
 use mathlib.Core.Bool.{Bool, true, false, _&&_}
 use lib.Dec.{eqb}
 use lib.ListN.{length, getD, take, drop, set, length-take, length-drop, drop-of-length-le}
-use lib.Seq.{drop-cons, getD-take, getD-drop, set-at, take-at}
+use lib.Seq.{drop-cons, getD-take, getD-drop, set-at}
 use borrow.Author.Tests.{eq-eqb, ne-eqb}
-use Rattle.text.specs.Bytes.{Bytes, same}
-use Rattle.text.specs.memory.Numbers.{numberAt, numberEnd, numbersAt}
+use Rattle.text.specs.Bytes.{same}
 use Rattle.logic.specs.Meaning.{countFrom}
 use Rattle.replay.specs.memory.Names.{indexIn}
 
@@ -48,16 +47,6 @@ pub index-none : (name : ℕ) → indexIn name [] ≡ 0
 unfolding indexIn
 index-none name = refl
 
--- the first of some numbers of a text, and the others
-pub numbers-more : (text : Bytes) (at many : ℕ) → 0 < many → numbersAt text at many ≡ numberAt text at ∷ numbersAt text (numberEnd text at + 1) (many - 1)
-unfolding numbersAt
-numbers-more text at zero h = absurd (omega arith)
-numbers-more text at (suc many) h = let e : suc many - 1 ≡ many = omega arith in rw e
-
-pub numbers-none : (text : Bytes) (at many : ℕ) → many ≡ 0 → numbersAt text at many ≡ []
-unfolding numbersAt
-numbers-none text at many e = rw e
-
 -- lists of different lengths are not the same
 pub same-lengths : (s t : List ℕ) → (length s ≡ length t → ⊥) → same s t ≡ false
 same-lengths [] [] h = absurd (h refl)
@@ -68,11 +57,6 @@ same-lengths (a ∷ s) (b ∷ t) h = pick (eqb a b) (same-lengths s t (λ e. h (
     pick : (c : Bool) → same s t ≡ false → (c && same s t) ≡ false
     pick true e = e
     pick false e = refl
-
-pub numbers-length : (text : Bytes) (at many : ℕ) → length (numbersAt text at many) ≡ many
-unfolding numbersAt
-numbers-length text at zero = refl
-numbers-length text at (suc many) = ap suc (numbers-length text (numberEnd text at + 1) many)
 
 -- The names 1, 2, 3 and so on, at the front of a list.
 
@@ -89,6 +73,3 @@ pub first-more : (list : List ℕ) (i : ℕ) → i < length list → set (countF
 first-more list i h =
     rw (add-one i, drop-cons list i 0 h, set-at (countFrom 1 i) _ (drop (suc i) list) (suc i) i (length-countFrom 1 i))
     (countFrom-end 1 i (suc i) (drop (suc i) list) (omega arith))
-
-pub first-names : (list : List ℕ) (count : ℕ) → take count (countFrom 1 count ++ drop count list) ≡ countFrom 1 count
-first-names list count = take-at (countFrom 1 count) (drop count list) count (length-countFrom 1 count)

@@ -1,5 +1,5 @@
--- What the jobs' promises come to: a promise allows one outcome alone, what stood in working memory before never shows, and demands 2 and 3. An answer
--- is its five numbers, so it is the definition's; the demands are those on the definition.
+-- What the jobs' promises come to: a promise allows one outcome alone, what stood in working memory before never shows, what a refusal gives, and
+-- demands 2 and 3. An answer is its five numbers, so it is the definition's; the demands are those on the definition.
 -- Assumes nothing.
 use Prim.Native.Nat.{ℕ, _≤_}
 use mathlib.Core.Path.{_≡_, sym, ap, subst, _∙_}
@@ -10,22 +10,25 @@ use lib.Dec.{leb}
 use lib.ListN.{length, drop}
 use borrow.Author.Tests.{le-leb}
 use Rattle.text.specs.Sizes.{textSize, workSize}
-use Rattle.text.specs.Bytes.{Bytes}
+use Rattle.text.specs.Bytes.{Bytes, bytes}
 use Rattle.text.specs.Outcome.{done}
 use Rattle.text.specs.Lines.{Judged}
 use Rattle.text.specs.Problem.{Problem, problemOf}
 use Rattle.text.proofs.Outcome.{allowed-done}
+use Rattle.text.proofs.Refusals.{Refuses, never, only}
 use Rattle.logic.specs.Formula.{Formula}
+use Rattle.logic.specs.Meaning.{Structure, Extends, satisfies}
 use Rattle.replay.specs.Theory.{theoryOf}
 use Rattle.replay.specs.Replay.{Ground, groundText}
 use Rattle.replay.specs.Answer.{Result, answerOf, outputAfter, resultOf, replayed, checked, replayResult, checkResult}
-use Rattle.replay.specs.Accepted.{Grounds, finalText, Fits, Equivalent}
+use Rattle.replay.specs.Accepted.{Grounds, finalText, accepts, Fits, Equivalent}
+use Rattle.replay.specs.Refused.{Listed, Refused}
 use Rattle.replay.specs.Promise.{Promise}
 use Rattle.replay.specs.memory.Conclusions.{answeredOf, shown}
 use Rattle.replay.specs.declared.job.Answer.{Answer}
-use Rattle.replay.proofs.Refusals.{checked-accepts}
+use Rattle.replay.proofs.Refusals.{replayed-refuses, checked-refuses, checked-accepts}
 use Rattle.replay.proofs.Accepted.{checked-judges}
-use Rattle.replay.proofs.Demands.{accepts, demand-two, demand-two-result, demand-three, replay-two, replay-two-result, replay-three}
+use Rattle.replay.proofs.Demands.{demand-two, demand-two-result, demand-three, replay-two, replay-two-result, replay-three, false-nowhere}
 
 -- One outcome.
 
@@ -77,12 +80,28 @@ module _ (problem theory derivation : Bytes) (output work other : List ℕ) (ali
   replay-unseen =
       unseen _ _ output work other (answered-unseen false problem theory derivation [] output work other (both-enough work other alike))
 
+-- A refusal.
+
+refused-promise : {last : ℕ} {J : Judged Ground} → Refuses (Listed last) J → (output work : List ℕ) {r : Answer} {new left : List ℕ} → Promise (resultOf J output work) r new left
+    → (r .number ≡ 0 → ⊥) → Refused last output r new
+refused-promise (never G) output work p some = absurd (some (p .number))
+refused-promise (only l) output work p some = record { listed = rw (p .number, p .file, p .line) l; rules = p .rules; formulas = p .formulas; kept = p .written }
+
 -- The job check.
 module _ (problem theory derivation claim : Bytes) (output work : List ℕ) {r : Answer} {new left : List ℕ}
     (promise : Promise (checkResult problem theory derivation claim output work) r new left) where
+  -- Demand 1: what a refusal gives.
+  pub check-one : (r .number ≡ 0 → ⊥) → Refused 19 output r new
+  check-one = refused-promise (checked-refuses problem theory derivation claim output work) output work promise
+
   -- Demand 3.
   pub check-three : r .number ≡ 0 → Equivalent problem theory claim
   check-three e = demand-three problem theory derivation claim output work (sym (promise .number) ∙ e)
+
+  -- After UNSAT the claim is `false` alone.
+  pub check-three-unsat : r .number ≡ 0 → claim ≡ bytes "false\n" → (P : Problem) (T : List Formula) → problemOf problem ≡ done P → theoryOf P theory ≡ done T
+      → (S : Structure) → Extends P S → satisfies S T ≡ false
+  check-three-unsat e f = false-nowhere problem theory (subst (Equivalent problem theory) f (check-three e))
 
   -- What is accepted is written: the claim.
   pub check-written : r .number ≡ 0 → new ≡ claim ++ drop (length claim) output
@@ -93,31 +112,34 @@ module _ (problem theory derivation claim : Bytes) (output work : List ℕ) {r :
 
   -- Demand 2.
   module _ (P : Problem) (T : List Formula) (readProblem : problemOf problem ≡ done P) (readTheory : theoryOf P theory ≡ done T)
-      (fits : Fits problem theory derivation claim output work) where
-    pub check-two : (r .number ≡ 0) ↔ ((g : Grounds P T derivation) × (claim ≡ finalText g))
+      (fits : Fits problem theory derivation claim work) where
+    pub check-two : (r .number ≡ 0) ↔ ((g : Grounds P T derivation) × (claim ≡ finalText g) × (length (finalText g) ≤ length output))
     check-two =
         let d = demand-two problem theory derivation claim output work P T readProblem readTheory fits in
         ((λ e. d .0 (sym (promise .number) ∙ e)), λ w. promise .number ∙ d .1 w)
 
-    pub check-two-result : (g : Grounds P T derivation) → claim ≡ finalText g → Promise (accepts g output work) r new left
-    check-two-result g e =
-        subst (λ (result : Result). Promise result r new left) (demand-two-result problem theory derivation claim output work P T readProblem readTheory fits g e) promise
+    pub check-two-result : (g : Grounds P T derivation) → claim ≡ finalText g → length (finalText g) ≤ length output → Promise (accepts g output work) r new left
+    check-two-result g e long =
+        subst (λ (result : Result). Promise result r new left) (demand-two-result problem theory derivation claim output work P T readProblem readTheory fits g e long) promise
 
 -- The job replay.
 module _ (problem theory derivation : Bytes) (output work : List ℕ) {r : Answer} {new left : List ℕ}
     (promise : Promise (replayResult problem theory derivation output work) r new left) where
+  pub replayed-one : (r .number ≡ 0 → ⊥) → Refused 18 output r new
+  replayed-one = refused-promise (replayed-refuses problem theory derivation output work) output work promise
+
   pub replayed-three : r .number ≡ 0 → (G : Ground) × Equivalent problem theory (groundText G) × (new ≡ groundText G ++ drop (length (groundText G)) output)
   replayed-three e =
       let (G, same, written) = replay-three problem theory derivation output work (sym (promise .number) ∙ e) in
       (G, same, promise .written ∙ written)
 
   module _ (P : Problem) (T : List Formula) (readProblem : problemOf problem ≡ done P) (readTheory : theoryOf P theory ≡ done T)
-      (fits : Fits problem theory derivation [] output work) where
-    pub replayed-two : (r .number ≡ 0) ↔ Grounds P T derivation
+      (fits : Fits problem theory derivation [] work) where
+    pub replayed-two : (r .number ≡ 0) ↔ ((g : Grounds P T derivation) × (length (finalText g) ≤ length output))
     replayed-two =
         let d = replay-two problem theory derivation output work P T readProblem readTheory fits in
-        ((λ e. d .0 (sym (promise .number) ∙ e)), λ g. promise .number ∙ d .1 g)
+        ((λ e. d .0 (sym (promise .number) ∙ e)), λ w. promise .number ∙ d .1 w)
 
-    pub replayed-two-result : (g : Grounds P T derivation) → Promise (accepts g output work) r new left
-    replayed-two-result g =
-        subst (λ (result : Result). Promise result r new left) (replay-two-result problem theory derivation output work P T readProblem readTheory fits g) promise
+    pub replayed-two-result : (g : Grounds P T derivation) → length (finalText g) ≤ length output → Promise (accepts g output work) r new left
+    replayed-two-result g long =
+        subst (λ (result : Result). Promise result r new left) (replay-two-result problem theory derivation output work P T readProblem readTheory fits g long) promise

@@ -6,7 +6,7 @@ use native.Mathlib.Omega.{arith}
 use mathlib.Core.Path.{_≡_, refl, sym}
 use mathlib.Core.Logic.{_↔_}
 use mathlib.Core.List.{List, [], _∷_}
-use mathlib.Core.Bool.{Bool, true, false, cond, _&&_, _||_}
+use mathlib.Core.Bool.{Bool, true, false, cond, _&&_}
 use lib.Dec.{eqb, leb}
 use borrow.Author.Tests.{leb-true, eqb-true}
 use Rattle.text.specs.Bytes.{Bytes}
@@ -22,6 +22,7 @@ use Rattle.logic.proofs.Rules.{onJunction-cases}
 use Rattle.logic.proofs.Refusals.{readFormula-refuses, apply-refuses, at-refuses}
 use Rattle.replay.specs.Theory.{theoryLine, theoryOf, Theory, State, live, ended, initial, inPlace, unlessEnded, wholeOnly, namedParts, splitParts, split, stepped}
 use Rattle.replay.specs.Replay.{Place, top, heading, among, bottom, Replayed, lineDone, derivationLine, wholeDerivation, derivationFrom, derivationOf, Ground, footerLine, groundOf}
+use Rattle.replay.specs.Refused.{fileOf, Listed}
 use Rattle.replay.specs.Answer.{differenceLine, grounded, replayed, checked, answerOf}
 
 -- The theory: 5 to 9.
@@ -108,17 +109,6 @@ module _ {N : ℕ → Type 0} (mislisted : N 16) (unground : N 17) (P : Problem)
       at-footer n h = record { numbered = h; filed = refl; lined = omega arith }
 
 -- The table.
-
--- the file that a number speaks of
-abbrev pub fileOf : ℕ → ℕ
-fileOf n = cond (leb n 2 || eqb n 18) 0 (cond (leb n 4) 1 (cond (leb n 9) 2 (cond (leb n 17) 3 4)))
-
--- a refusal as the table has it, from 1 to the last number; line 0 is no line, and file 0 no file
-pub record Listed (last : ℕ) (r : Refusal) : Type 0 where
-  pub least : 1 ≤ r .number
-  pub greatest : r .number ≤ last
-  pub filed : r .file ≡ fileOf (r .number)
-  pub lined : (r .line ≡ 0) ↔ (r .file ≡ 0)
 
 -- a number that both jobs refuse with, of that file
 abbrev isOf : ℕ → ℕ → Bool

@@ -90,9 +90,6 @@ within-fits top t =
     allowed-mapped (λ u. sizesFit (formulasOf t) ≡ true) (λ s. (s ≡ live t top) × (sizesFit (formulasOf t) ≡ true)) (λ u. live t top) (λ u e. (refl, e))
     (provided (sizesFit (formulasOf t)) 15) (allowed-provided (sizesFit (formulasOf t)) 15)
 
-fits-within : (top : ℕ) (t : Theory) → sizesFit (formulasOf t) ≡ true → within top t ≡ done (live t top)
-fits-within top t e = rw e
-
 -- SPLITC
 parts-named : (ns : List ℕ) (fs : Formulas) → Allowed (Named ns fs) (namedParts ns fs)
 parts-named [] noParts = nobody

@@ -23,7 +23,7 @@ use Rattle.replay.specs.memory.Steps.{ToldTarget}
 use Rattle.replay.specs.declared.live.Live.{Live}
 use Rattle.replay.specs.declared.target.Target.{Target}
 use Rattle.replay.specs.declared.target.Target.the-variants as target
-use Rattle.replay.proofs.NameLists.{numbers-none}
+use Rattle.text.proofs.NumberPlaces.{numbersAt-none}
 
 module _ (m : Held) (p : Position) (index : ℕ) (here : index ≡ indexIn (p .name) (m .names)) where
   pub target-missing : index ≡ length (m .names) → targetIn m p ≡ refused 11
@@ -72,7 +72,7 @@ module _ (m : Held) (p : Position) where
     whole-at e d = rw (found, e, d)
 
 pub steps-none : (text : Bytes) (at steps : ℕ) → steps ≤ 0 → isEmpty (numbersAt text at steps) ≡ true
-steps-none text at steps h = ap isEmpty (numbers-none text at steps (omega arith))
+steps-none text at steps h = ap isEmpty (numbersAt-none text at steps (omega arith))
 
 pub steps-some : (text : Bytes) (at steps : ℕ) → 0 < steps → isEmpty (numbersAt text at steps) ≡ false
 unfolding numbersAt

@@ -2,12 +2,13 @@
 -- Assumes nothing.
 use Prim.Native.Nat.{ℕ}
 use mathlib.Core.Path.{_≡_, refl, sym, ap, _∙_}
-use mathlib.Core.List.{List, [], _∷_, _++_}
+use mathlib.Core.List.{List, [], _∷_, _++_, map-append}
 use mathlib.Core.Bool.{Bool, _&&_, and-assoc}
+use lib.ListN.{length, length-map}
 use Rattle.text.proofs.Laws.{Each}
 use Rattle.logic.specs.Formula.{Formula, Formulas, noParts, part, all}
 use Rattle.logic.specs.Meaning.{Structure, nowhere, holds, truths, joinAll, satisfies}
-use Rattle.replay.specs.Theory.{Theory, formulasOf}
+use Rattle.replay.specs.Theory.{Entry, Theory, formulasOf, namesOf}
 use Rattle.replay.specs.Steps.{Named, nobody, somebody}
 
 -- each part of a list of parts
@@ -48,3 +49,14 @@ module _ (S : Structure) where
   unfolding truths
   satisfies-named ns fs ts nobody = refl
   satisfies-named ns fs ts (somebody n ms f hs us w) = ap (λ (b : Bool). holds S nowhere f && b) (satisfies-named ms hs us w)
+
+-- The names and formulas of a theory.
+
+pub names-append : (t u : Theory) → namesOf (t ++ u) ≡ namesOf t ++ namesOf u
+names-append t u = map-append (λ (e : Entry). e .name) t u
+
+pub length-names : (t : Theory) → length (namesOf t) ≡ length t
+length-names t = length-map t (λ (e : Entry). e .name)
+
+pub length-formulas : (t : Theory) → length (formulasOf t) ≡ length t
+length-formulas t = length-map t (λ (e : Entry). e .formula)

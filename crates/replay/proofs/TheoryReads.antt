@@ -33,10 +33,10 @@ use Rattle.formula.proofs.memory.Words.{words-size}
 use Rattle.formula.proofs.memory.Variables.{fits-variables}
 use Rattle.formula.proofs.memory.TheoryLines.{line-then, TheoryEntered, theory-none, theory-more}
 use Rattle.replay.specs.Theory.{theoryLine, theoryOf}
-use Rattle.replay.specs.memory.Going.{Going}
+use Rattle.text.specs.memory.Going.{Going}
 use Rattle.replay.specs.memory.TheoryReads.{totalsFit, TheoryFound}
 use Rattle.replay.proofs.Ground.{sizeTotal-append}
-use Rattle.replay.proofs.Going.{going-first, going-on, going-refused, going-end}
+use Rattle.text.proofs.Going.{going-first, going-on, going-refused, going-end}
 
 -- The totals.
 

@@ -30,7 +30,7 @@ use Rattle.replay.specs.declared.live.Step.the-variants as step-of
 use Rattle.replay.specs.declared.replaying.Moved.{Moved as MovedRead}
 use Rattle.replay.specs.declared.replaying.Moved.the-variants as moved
 use Rattle.replay.specs.declared.replaying.Replayed.{Replayed as ReplayedRead}
-use Rattle.replay.proofs.Going.{going-first, going-on, going-refused, going-end, going-stuck}
+use Rattle.text.proofs.Going.{going-first, going-on, going-refused, going-end, going-stuck}
 
 name-rule : (rule : RuleName) → ruleName (ruleOf rule) ≡ rule
 name-rule Snand = refl

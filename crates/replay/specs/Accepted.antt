@@ -1,9 +1,9 @@
 -- What acceptance means, and what it promises: demands 2 and 3 as a logician reads them.
 use Prim.Native.Nat.{ℕ, _≤_}
 use mathlib.Core.Path.{_≡_}
-use mathlib.Core.List.{List}
+use mathlib.Core.List.{List, _++_}
 use mathlib.Core.Bool.{true}
-use lib.ListN.{length}
+use lib.ListN.{length, drop}
 use Rattle.text.specs.Sizes.{textSize, workSize}
 use Rattle.text.specs.Bytes.{Bytes}
 use Rattle.text.specs.Outcome.{done}
@@ -14,6 +14,7 @@ use Rattle.logic.specs.Meaning.{Structure, Extends, satisfies}
 use Rattle.replay.specs.Theory.{State, formulasOf, namesOf, liveTheory, initial, theoryOf}
 use Rattle.replay.specs.Steps.{Steps}
 use Rattle.replay.specs.Replay.{isGround, theoryText}
+use Rattle.replay.specs.Answer.{Result, workAfter}
 
 -- the derivation's text is heading, rule lines and footer; each line is allowed, from the theory to a last one; the footer lists its names;
 -- its formulas are ground clauses, or `false` alone after UNSAT
@@ -33,13 +34,20 @@ finalFormulas g = formulasOf (liveTheory (g .last))
 abbrev pub finalText : {P : Problem} {T : List Formula} {derivation : Bytes} → Grounds P T derivation → Bytes
 finalText g = theoryText (finalFormulas g)
 
--- texts within their sizes and buffers long enough
-pub record Fits (problem theory derivation claim : Bytes) (output work : List ℕ) : Type 0 where
+-- what a job answers and leaves where it accepts: the counts are the rule lines and the names that the footer lists
+abbrev pub accepts : {P : Problem} {T : List Formula} {derivation : Bytes} → Grounds P T derivation → List ℕ → List ℕ → Result
+accepts g output work = record {
+  answer = record { number = 0; file = 0; line = 0; rules = length (g .written .lines); formulas = length (g .written .final) };
+  output = finalText g ++ drop (length (finalText g)) output;
+  work = workAfter work;
+}
+
+-- texts within their sizes, and working memory long enough
+pub record Fits (problem theory derivation claim : Bytes) (work : List ℕ) : Type 0 where
   pub shortProblem : length problem ≤ textSize
   pub shortTheory : length theory ≤ textSize
   pub shortDerivation : length derivation ≤ textSize
   pub shortClaim : length claim ≤ textSize
-  pub longOutput : textSize ≤ length output
   pub longWork : workSize ≤ length work
 
 -- three texts are read as a problem, a theory and a ground theory, and in every structure that extends the input structure the one holds exactly

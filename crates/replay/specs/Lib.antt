@@ -5,3 +5,4 @@ pub mod Answer
 pub mod Accepted
 pub mod memory
 pub mod Promise
+pub mod Refused

@@ -1,7 +1,6 @@
 pub mod Names
 pub mod Held
 pub mod Steps
-pub mod Going
 pub mod Lines
 pub mod TheoryReads
 pub mod Grounds

@@ -8,19 +8,21 @@ use crate::names::climbs;
 use crate::names::with_names;
 use crate::target::Target;
 use crate::target::whole_target;
+use formula::head::truth_word;
 use formula::word::Kind;
 use formula::word::Sign;
 use formula::word::kind_of;
 ghost use mathlib.Core.Path.{_≡_};
 ghost use mathlib.Core.List.{List, [], _∷_};
-ghost use mathlib.Core.Bool.{true};
+ghost use mathlib.Core.Bool.{true, false};
 ghost use Prim.Native.Nat.{ℕ, _+_, _≤_, _<_};
 ghost use lib.ListN.{length, getD, take};
 ghost use Rattle.text.specs.Outcome.{done};
 ghost use Rattle.text.specs.memory.Numbers.{numbersAt};
 ghost use Rattle.text.specs.memory.RuleLines.{positionAt};
+ghost use Rattle.formula.specs.memory.Words.{truthWord};
 ghost use Rattle.formula.specs.memory.Kinds.{kindOf};
-ghost use Rattle.replay.specs.memory.Held.{held, openedIn, removedIn, isSplit, isConjunction, splitIn, refutedIn};
+ghost use Rattle.replay.specs.memory.Held.{held, openedIn, isValue, removedIn, isSplit, isConjunction, splitIn, refutedIn};
 ghost use Rattle.replay.specs.memory.Steps.{heldIn, Arranged, Few, Moved, ToldStep};
 
 // The word at a place of the theory; 0 behind it.
@@ -66,6 +68,31 @@ fn opened(
     }
 }
 
+// Whether a word is that of a truth value.
+fn is_truth(word: u32, value: bool) -> bool
+    ensures { λ r. ⌜ r ≡ isValue value (kindOf word) ⌝ }
+{
+    match kind_of(word) {
+        Kind::Truth(b) => {
+            if value {
+                return b;
+            }
+            !b
+        }
+        Kind::Atom {
+            predicate: _,
+            terms: _,
+        } => false,
+        Kind::Equality => false,
+        Kind::Connective { sign: _, parts: _ } => false,
+        Kind::Quantifier {
+            every: _,
+            variable: _,
+        } => false,
+        Kind::Term => false,
+    }
+}
+
 // TRIVIAL
 pub fn removed(
     text: &[u8],
@@ -81,7 +108,7 @@ pub fn removed(
 {
     match whole_target(text, work, layout.names, live, name, path, steps) {
         Target::At { index, at } => {
-            if word_at(work, live.full, at) != 1 {
+            if !is_truth(word_at(work, live.full, at), true) {
                 return Step::Refused(13);
             }
             Step::Done(opened(text, work, layout, live, index, at, 0, 0, live.top))
@@ -165,10 +192,10 @@ pub fn split(
 // Of the theory one formula is left, `false`.
 fn falsified(work: &mut [u32], layout: Layout, live: Live, name: u32) -> Live
     requires { ⌜ Arranged layout (length (now work)) ⌝ }
-    ensures { λ r. ⌜ Moved (done (held (0 ∷ []) (name ∷ []) (live .top) true)) layout (now (work .entry)) r (now (work .exit)) ⌝ }
+    ensures { λ r. ⌜ Moved (done (held (truthWord false ∷ []) (name ∷ []) (live .top) true)) layout (now (work .entry)) r (now (work .exit)) ⌝ }
 {
     let start = layout.names;
-    work[0] = 0;
+    work[0] = truth_word(false);
     work[start] = name;
     Live {
         count: 1,
@@ -193,7 +220,7 @@ pub fn refuted(
 {
     match whole_target(text, work, layout.names, live, name, path, steps) {
         Target::At { index: _, at } => {
-            if word_at(work, live.full, at) != 0 {
+            if !is_truth(word_at(work, live.full, at), false) {
                 return Step::Refused(13);
             }
             Step::Done(falsified(work, layout, live, name))

@@ -1,7 +1,7 @@
 -- The live formulas as memory holds them, and the rule lines on them: 11 to 15, as the code decides them.
 use Prim.Native.Nat.{ℕ, zero, suc, _+_}
 use mathlib.Core.List.{List, [], _∷_}
-use mathlib.Core.Bool.{Bool, true, false, cond, not, _&&_}
+use mathlib.Core.Bool.{Bool, true, false, cond, not, _&&_, Bool·beq}
 use lib.Dec.{eqb, leb}
 use lib.ListN.{length, getD, drop}
 use Rattle.text.specs.Bytes.{same}
@@ -10,6 +10,7 @@ use Rattle.text.specs.Derivation.{Position, Rule, SNAND, SNOR, STN, EPRED, EPRO
 use Rattle.text.specs.declared.table.Table.{Table}
 use Rattle.text.specs.declared.rule_line.Rule.{Rule as RuleName}
 use Rattle.text.specs.declared.rule_line.Rule.the-variants.{Snand, Snor, Stn, Epred, Eprop, Iq}
+use Rattle.formula.specs.memory.Words.{truthWord}
 use Rattle.formula.specs.memory.Kinds.{kindOf, skip}
 use Rattle.formula.specs.memory.Paths.{placeOf}
 use Rattle.formula.specs.memory.Storing.{spliced}
@@ -95,9 +96,18 @@ unfoldable pub openedIn : Held → ℕ × ℕ → List ℕ → ℕ → Outcome �
 openedIn m t names top =
     done (held (exchanged (m .words) (t .1) (t .1 + 1) []) (exchanged (m .names) (t .0) (t .0 + 1) names) top false)
 
+-- a word of that truth value
+abbrev pub isValue : Bool → Kind → Bool
+isValue b (kind.Truth c) = Bool·beq b c
+isValue b (kind.Atom p n) = false
+isValue b kind.Equality = false
+isValue b (kind.Connective sign n) = false
+isValue b (kind.Quantifier every x) = false
+isValue b kind.Term = false
+
 -- TRIVIAL
 unfoldable pub removedIn : Held → Position → Outcome ℕ Held
-removedIn m p = wholeIn m p >>= λ t. provided (eqb (getD (m .words) (t .1) 0) 1) 13 >> openedIn m t [] (m .top)
+removedIn m p = wholeIn m p >>= λ t. provided (isValue true (kindOf (getD (m .words) (t .1) 0))) 13 >> openedIn m t [] (m .top)
 
 -- a word of an `&` of so many parts, one or more
 abbrev pub isConjunction : Sign → ℕ → ℕ → Bool
@@ -125,7 +135,7 @@ splitIn m p names =
 
 -- UNSAT
 unfoldable pub refutedIn : Held → Position → Outcome ℕ Held
-refutedIn m p = wholeIn m p >>= λ t. provided (eqb (getD (m .words) (t .1) 0) 0) 13 >> done (held (0 ∷ []) (p .name ∷ []) (m .top) true)
+refutedIn m p = wholeIn m p >>= λ t. provided (isValue false (kindOf (getD (m .words) (t .1) 0))) 13 >> done (held (truthWord false ∷ []) (p .name ∷ []) (m .top) true)
 
 -- the rule as the code names it
 abbrev pub ruleName : Rule → RuleName

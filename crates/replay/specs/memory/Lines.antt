@@ -10,7 +10,7 @@ use Rattle.text.specs.Lines.{Judged, refusal}
 use Rattle.text.specs.memory.Numbers.{numbersAt}
 use Rattle.text.specs.declared.table.Table.{Table}
 use Rattle.replay.specs.Replay.{Place, among, bottom, Replayed, wholeDerivation, derivationLine}
-use Rattle.replay.specs.memory.Going.{Going}
+use Rattle.text.specs.memory.Going.{Going}
 use Rattle.replay.specs.memory.Held.{Held, steppedIn}
 use Rattle.replay.specs.memory.Steps.{rowsIn, heldIn, Few}
 use Rattle.replay.specs.declared.live.Live.{Live}

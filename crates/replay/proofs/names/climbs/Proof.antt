@@ -7,7 +7,7 @@ use Prim.Native.Nat.{_+_, _≤_}
 use mathlib.Core.Path.{_≡_, refl, _∙_}
 use Rattle.text.specs.memory.Numbers.{numbersAt}
 use Rattle.replay.specs.Theory.{climbing, highest}
-use Rattle.replay.proofs.NameLists.{numbers-more, numbers-none}
+use Rattle.text.proofs.NumberPlaces.{numbersAt-more, numbersAt-none}
 use Rattle.replay.proofs.names.climbs.Statement.{statement}
 use Rattle.replay.proofs.names.climbs.Tie as tie
 
@@ -23,7 +23,7 @@ loop-holds c = (omega arith, omega arith, refl, refl)
 returns : tie.Need-returns Inv-loop μ-loop
 returns c =
     let s = c .before .before .before .before .before .args .text .now in
-    c .before .before .before .loop .inv .2 ∙ rw (numbers-more s (c .before .before .before .loop .place) (c .before .before .before .loop .left) (c .before .before .loop-test .taken), ← c .before .digits-at .ensures .value, le-ltb (c .before .before .before .loop .greatest) (c .before .digits-at .result .value) (c .if1 .taken))
+    c .before .before .before .loop .inv .2 ∙ rw (numbersAt-more s (c .before .before .before .loop .place) (c .before .before .before .loop .left) (c .before .before .loop-test .taken), ← c .before .digits-at .ensures .value, le-ltb (c .before .before .before .loop .greatest) (c .before .digits-at .result .value) (c .if1 .taken))
 
 add-place : tie.Need-add-place Inv-loop μ-loop
 add-place c = omega (arith, c .before .before .digits-at .ensures .within)
@@ -32,13 +32,13 @@ loop-again : tie.Need-loop-again Inv-loop μ-loop
 loop-again c =
     let s = c .before .before .before .before .before .before .args .text .now in
     let d = c .before .before .digits-at .ensures in
-    let e = numbers-more s (c .before .before .before .before .loop .place) (c .before .before .before .before .loop .left) (c .before .before .before .loop-test .taken) in
+    let e = numbersAt-more s (c .before .before .before .before .loop .place) (c .before .before .before .before .loop .left) (c .before .before .before .loop-test .taken) in
     (omega arith, omega (arith, d .within), c .before .before .before .before .loop .inv .2 ∙ rw (e, ← d .value, ← d .next, lt-ltb (c .before .before .before .before .loop .greatest) (c .before .before .digits-at .result .value) (c .before .if1 .left)), c .before .before .before .before .loop .inv .3 ∙ rw (e, ← d .value, ← d .next))
 
 returns-2 : tie.Need-returns-2 Inv-loop μ-loop
 returns-2 c =
     let s = c .before .before .before .args .text .now in
-    let e = numbers-none s (c .before .loop .place) (c .before .loop .left) (omega arith) in
+    let e = numbersAt-none s (c .before .loop .place) (c .before .loop .left) (omega arith) in
     (c .before .loop .inv .2 ∙ rw e, c .before .loop .inv .3 ∙ rw e)
 
 pub climbs-spec : {M : Type 1} → statement M

@@ -5,7 +5,7 @@ use native.Mathlib.Omega.{arith}
 use mathlib.Core.Path.{refl}
 use Rattle.text.specs.memory.Numbers.{numbersAt}
 use Rattle.formula.proofs.memory.Storing.{ahead-turn, ahead-length, theory-starts, theory-ends, place-near}
-use Rattle.replay.proofs.NameLists.{numbers-length}
+use Rattle.text.proofs.NumberPlaces.{length-numbersAt}
 use Rattle.replay.proofs.Regions.{roomy-placed}
 use Rattle.replay.proofs.names.names_behind.Statement.{statement}
 use Rattle.replay.proofs.names.names_behind.Tie as tie
@@ -21,7 +21,7 @@ copy-requires-2 c κs =
     let p = roomy-placed (c .before .before .before .before .before .before .before .before .before .before .before .pre .0) in
     let a = c .before .before .before .before .before .before .before .before .before .before .before .args in
     let h = ahead-turn (theory-starts p (numbersAt (a .text .now) (a .at) (a .many)) (c .before .before .before .before .before .before .before .copy .ensures)) refl (c .before .before .before .put-numbers .ensures) in
-    omega (arith, place-near p (c .before .before .before .before .before .before .before .copy .ensures), c .before .before .before .put-numbers .ensures .ends, numbers-length (a .text .now) (a .at) (a .many), ahead-length h, c .before .before .before .before .before .before .before .before .before .before .before .pre .0, c .before .before .before .before .before .before .before .before .before .before .before .pre .2)
+    omega (arith, place-near p (c .before .before .before .before .before .before .before .copy .ensures), c .before .before .before .put-numbers .ensures .ends, length-numbersAt (a .text .now) (a .at) (a .many), ahead-length h, c .before .before .before .before .before .before .before .before .before .before .before .pre .0, c .before .before .before .before .before .before .before .before .before .before .before .pre .2)
 
 sub-result : tie.Need-sub-result
 sub-result c =

@@ -7,7 +7,7 @@ use Prim.Native.Nat.{_+_, _≤_}
 use mathlib.Core.Path.{_∙_}
 use Rattle.text.specs.memory.Numbers.{numbersAt}
 use Rattle.formula.proofs.memory.Storing.{Ahead, ahead-start, ahead-turn, ahead-end, ahead-length}
-use Rattle.replay.proofs.NameLists.{numbers-more, numbers-none, numbers-length}
+use Rattle.text.proofs.NumberPlaces.{numbersAt-more, numbersAt-none, length-numbersAt}
 use Rattle.replay.proofs.names.put_numbers.Tie as tie
 
 abbrev Inv-loop : tie.InvT-loop
@@ -22,7 +22,7 @@ loop-holds c = (omega arith, omega arith, ahead-start _ _ _)
 put-requires : tie.Need-put-requires Inv-loop μ-loop
 put-requires c κs =
     let a = c .before .before .before .before .before .before .args in
-    omega (arith, c .before .before .before .loop .inv .2 .ends, numbers-length (a .text .now) (a .at) (a .many))
+    omega (arith, c .before .before .before .loop .inv .2 .ends, length-numbersAt (a .text .now) (a .at) (a .many))
 
 add-place : tie.Need-add-place Inv-loop μ-loop
 add-place c = omega (arith, c .before .before .before .before .before .digits-at .ensures .within)
@@ -31,13 +31,13 @@ loop-again : tie.Need-loop-again Inv-loop μ-loop
 loop-again c =
     let a = c .before .before .before .before .before .before .before .before .before .before .args in
     let d = c .before .before .before .before .before .digits-at .ensures in
-    (omega arith, omega (arith, d .within), ahead-turn (c .before .before .before .before .before .before .before .loop .inv .2) (numbers-more (a .text .now) (c .before .before .before .before .before .before .before .loop .place) (c .before .before .before .before .before .before .before .loop .left) (c .before .before .before .before .before .before .loop-test .taken) ∙ rw (← d .value, ← d .next)) (c .before .before .before .put .ensures))
+    (omega arith, omega (arith, d .within), ahead-turn (c .before .before .before .before .before .before .before .loop .inv .2) (numbersAt-more (a .text .now) (c .before .before .before .before .before .before .before .loop .place) (c .before .before .before .before .before .before .before .loop .left) (c .before .before .before .before .before .before .loop-test .taken) ∙ rw (← d .value, ← d .next)) (c .before .before .before .put .ensures))
 
 same-length : tie.Need-same-length Inv-loop μ-loop
 same-length c = ahead-length (c .before .loop .inv .2)
 
 returns : tie.Need-returns Inv-loop μ-loop
-returns c = ahead-end (c .before .loop .inv .2) (numbers-none (c .before .before .before .before .args .text .now) (c .before .loop .place) (c .before .loop .left) (omega arith))
+returns c = ahead-end (c .before .loop .inv .2) (numbersAt-none (c .before .before .before .before .args .text .now) (c .before .loop .place) (c .before .loop .left) (omega arith))
 
 pub put-numbers-spec : {M : Type 1} → statement M
 put-numbers-spec =

@@ -8,7 +8,8 @@ use Rattle.text.specs.memory.RuleLines.{positionAt}
 use borrow.Author.Tests.{not-true, not-false}
 use Rattle.replay.specs.memory.Held.{wholeIn}
 use Rattle.replay.specs.memory.Steps.{heldIn}
-use Rattle.replay.proofs.NameLists.{numbers-length, region-length}
+use Rattle.text.proofs.NumberPlaces.{length-numbersAt}
+use Rattle.replay.proofs.NameLists.{region-length}
 use Rattle.replay.proofs.Targets.{told-at, told-refused}
 use Rattle.replay.proofs.Splits.{told-climb, told-stuck, split-stuck, split-refused, split-other, split-over, split-done, split-some, word-here}
 use Rattle.replay.proofs.Moves.{moved-as}
@@ -32,7 +33,7 @@ returns c =
     let names = numbersAt (a .text .now) (a .names) (a .many) in
     let k = told-climb _ _ _ (c .before .before .before .before .before .before .before .before .before .before .before .before .climbs .ensures) _ (c .before .before .before .before .before .before .before .before .before .before .top .given .1) in
     let t = told-at (wholeIn m p) (a .live) _ (c .before .before .before .before .before .before .before .whole-target .ensures) _ _ (c .before .before .before .before .before .index .given .1) in
-    let n = numbers-length (a .text .now) (a .names) (a .many) in
+    let n = length-numbersAt (a .text .now) (a .names) (a .many) in
     split-other m p names (k .0) _ (t .0) (rw (n, ← c .before .before .word-at .ensures, ← c .before .is-split .ensures) (not-true _ (c .if1 .taken)))
 
 returns-2 : tie.Need-returns-2
@@ -43,7 +44,7 @@ returns-2 c =
     let names = numbersAt (a .text .now) (a .names) (a .many) in
     let k = told-climb _ _ _ (c .before .before .before .before .before .before .before .before .before .before .before .before .before .before .climbs .ensures) _ (c .before .before .before .before .before .before .before .before .before .before .before .before .top .given .1) in
     let t = told-at (wholeIn m p) (a .live) _ (c .before .before .before .before .before .before .before .before .before .whole-target .ensures) _ _ (c .before .before .before .before .before .before .before .index .given .1) in
-    let n = numbers-length (a .text .now) (a .names) (a .many) in
+    let n = length-numbersAt (a .text .now) (a .names) (a .many) in
     let l = region-length (a .work .now) (a .layout .names) (a .live .count) (omega (arith, c .before .before .before .before .before .before .before .before .before .before .before .before .before .before .before .before .before .pre .0, c .before .before .before .before .before .before .before .before .before .before .before .before .before .before .before .before .before .pre .1)) in
     split-over m p names (k .0) _ (t .0) (rw (n, ← c .before .before .before .before .word-at .ensures, ← c .before .before .before .is-split .ensures) (not-false _ (c .before .before .if1 .left))) (omega (arith, l, n, c .if2 .taken))
 
@@ -55,7 +56,7 @@ opened-requires c κs =
     let names = numbersAt (a .text .now) (a .names) (a .many) in
     let k = told-climb _ _ _ (c .before .before .before .before .before .before .before .before .before .before .before .before .before .before .before .climbs .ensures) _ (c .before .before .before .before .before .before .before .before .before .before .before .before .before .top .given .1) in
     let t = told-at (wholeIn m p) (a .live) _ (c .before .before .before .before .before .before .before .before .before .before .whole-target .ensures) _ _ (c .before .before .before .before .before .before .before .before .index .given .1) in
-    let n = numbers-length (a .text .now) (a .names) (a .many) in
+    let n = length-numbersAt (a .text .now) (a .names) (a .many) in
     let h = word-here (a .work .now) (a .live .full) (c .before .before .before .before .before .before .before .before .index .given .0 .1 .0) (λ e. split-some _ _ (sym (c .before .before .before .before .is-split .ensures) ∙ not-false _ (c .before .before .before .if1 .left)) (c .before .before .before .before .before .word-at .ensures ∙ e)) in
     (c .before .before .before .before .before .before .before .before .before .before .before .before .before .before .before .before .before .before .pre .0, c .before .before .before .before .before .before .before .before .before .before .before .before .before .before .before .before .before .before .pre .1, t .1 .0, h, omega (arith, c .before .if2 .left), c .before .before .before .before .before .before .before .before .before .before .before .before .before .before .before .before .before .before .pre .3, omega (arith, c .before .before .before .before .before .before .before .before .before .before .before .before .before .before .before .before .before .before .pre .5))
 
@@ -67,7 +68,7 @@ returns-3 c =
     let names = numbersAt (a .text .now) (a .names) (a .many) in
     let k = told-climb _ _ _ (c .before .before .before .before .before .before .before .before .before .before .before .before .before .before .before .before .before .before .climbs .ensures) _ (c .before .before .before .before .before .before .before .before .before .before .before .before .before .before .before .before .top .given .1) in
     let t = told-at (wholeIn m p) (a .live) _ (c .before .before .before .before .before .before .before .before .before .before .before .before .before .whole-target .ensures) _ _ (c .before .before .before .before .before .before .before .before .before .before .before .index .given .1) in
-    let n = numbers-length (a .text .now) (a .names) (a .many) in
+    let n = length-numbersAt (a .text .now) (a .names) (a .many) in
     let l = region-length (a .work .now) (a .layout .names) (a .live .count) (omega (arith, c .before .before .before .before .before .before .before .before .before .before .before .before .before .before .before .before .before .before .before .before .before .pre .0, c .before .before .before .before .before .before .before .before .before .before .before .before .before .before .before .before .before .before .before .before .before .pre .1)) in
     moved-as _ _ (a .layout) (a .work .now) (c .before .before .opened .result) (c .before .before .opened .last .1 .0) (sym (split-done m p names (k .0) _ (t .0) (rw (n, ← c .before .before .before .before .before .before .before .before .word-at .ensures, ← c .before .before .before .before .before .before .before .is-split .ensures) (not-false _ (c .before .before .before .before .before .before .if1 .left))) (omega (arith, l, n, c .before .before .before .before .if2 .left)) ∙ rw (k .1))) (c .before .before .opened .ensures)
 
