@@ -3,8 +3,8 @@
 use borrow.Author.Needs.{needs}
 use mathlib.Core.Path.{sym}
 use lib.Seq.{length-take-le}
-use Rattle.foxcheck.proofs.input.load.Statement.{statement}
-use Rattle.foxcheck.proofs.input.load.Tie as tie
+use Rattle.desk.proofs.input.load.Statement.{statement}
+use Rattle.desk.proofs.input.load.Tie as tie
 
 returns-2 : tie.Need-returns-2
 returns-2 c = let size = c .before .before .before .fill .ensures in (size, sym (length-take-le _ _ size))

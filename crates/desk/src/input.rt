@@ -3,6 +3,7 @@ ghost use Prim.Native.Nat.{_≤_};
 ghost use mathlib.Core.Path.{_≡_};
 ghost use lib.ListN.{length};
 ghost use Rattle.io.specs.Counts.{Counts};
+ghost use Rattle.desk.specs.Unread.{firstUnread};
 
 // What was read of a file: whether it could be opened and read, and how many bytes.
 pub struct Loaded {
@@ -65,7 +66,9 @@ pub fn load(path: &[u8], room: &mut [u8]) -> Loaded
 }
 
 // The number of the first file that is not open, 0 where all are.
-pub fn first_unread(problem: bool, theory: bool, derivation: bool, claim: bool) -> u64 {
+pub fn first_unread(problem: bool, theory: bool, derivation: bool, claim: bool) -> u64
+    ensures { λ r. ⌜ r ≡ firstUnread problem theory derivation claim ⌝ }
+{
     if !problem {
         return 1;
     }

@@ -4,8 +4,8 @@ use borrow.Author.Needs.{needs}
 use Prim.Native.Nat.{_-_, _≤_}
 use mathlib.Core.Path.{_≡_}
 use lib.ListN.{length}
-use Rattle.foxcheck.proofs.input.fill.Statement.{statement}
-use Rattle.foxcheck.proofs.input.fill.Tie as tie
+use Rattle.desk.proofs.input.fill.Statement.{statement}
+use Rattle.desk.proofs.input.fill.Tie as tie
 
 abbrev Inv-loop : tie.InvT-loop
 Inv-loop fd room₀ size₀ room size = (size ≤ length room) × (length room ≡ length room₀)
