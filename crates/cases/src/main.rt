@@ -1,6 +1,7 @@
-// Runs the cases of data/ and prints each answer: derivation lines, headings, problems and refused lines by the text crate, and whole runs
-// of check and replay.
+// Runs the cases of data/ and prints each answer: derivation lines, headings, problems and refused lines by the text crate, whole runs of
+// check and replay, and folders by the desk.
 mod echo;
+mod folders;
 mod headings;
 mod jobs;
 mod lent;
@@ -16,4 +17,5 @@ fn main() {
     lines::run();
     jobs::run();
     runs::all();
+    folders::all();
 }
