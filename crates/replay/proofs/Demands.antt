@@ -41,7 +41,7 @@ judges-equivalent problem theory derivation G j = rw (j .is) record {
   readProblem = j .readProblem;
   readTheory = j .readTheory;
   readGround = final-read problem theory derivation (j .P) (j .T) (j .readProblem) (j .readTheory) (j .grounds);
-  same = final-same problem theory derivation (j .P) (j .T) (j .readProblem) (j .readTheory) (j .grounds);
+  agree = final-same problem theory derivation (j .P) (j .T) (j .readProblem) (j .readTheory) (j .grounds);
 }
 
 -- texts are read as one problem and one theory
@@ -138,4 +138,4 @@ false-nowhere problem theory e P T readProblem readTheory S extends =
     let p : e .P ≡ P = cc (e .readProblem, readProblem) in
     let t : e .T ≡ T = cc (e .readTheory, readTheory, p) in
     let f : e .G ≡ truth false ∷ [] = cc (e .readGround, read-false (e .P)) in
-    ap (satisfies S) (sym t) ∙ e .same S (rw p extends) ∙ ap (satisfies S) f
+    ap (satisfies S) (sym t) ∙ e .agree S (rw p extends) ∙ ap (satisfies S) f

@@ -59,4 +59,4 @@ pub record Equivalent (problem theory ground : Bytes) : Type 0 where
   pub readProblem : problemOf problem ≡ done P
   pub readTheory : theoryOf P theory ≡ done T
   pub readGround : theoryOf P ground ≡ done G
-  pub same : (S : Structure) → Extends P S → satisfies S T ≡ satisfies S G
+  pub agree : (S : Structure) → Extends P S → satisfies S T ≡ satisfies S G

@@ -26,18 +26,18 @@ pub data Named : List ℕ → Formulas → Theory → Type 0 where
 
 -- `before` and `after` are the formulas around the one that the line names
 pub data Step (P : Problem) : State → RuleLine → State → Type 0 where
-  rewriting : (r : Rule) (n : ℕ) (path : List ℕ) (before after : Theory) (f h : Formula) (top : ℕ)
+  rewriting : (r : Rule) (n : ℕ) (path : List ℕ) (before after : Theory) (f h : Formula) (used : ℕ)
       → absent n before ≡ true → MakesAt P r path f h → sizesFit (formulasOf (before ++ (entry n h ∷ after))) ≡ true
-      → Step P (live (before ++ (entry n f ∷ after)) top) (rewrite r (position n path)) (live (before ++ (entry n h ∷ after)) top)
-  removing : (n : ℕ) (before after : Theory) (top : ℕ)
+      → Step P (live (before ++ (entry n f ∷ after)) used) (rewrite r (position n path)) (live (before ++ (entry n h ∷ after)) used)
+  removing : (n : ℕ) (before after : Theory) (used : ℕ)
       → absent n before ≡ true → sizesFit (formulasOf (before ++ after)) ≡ true
-      → Step P (live (before ++ (entry n (truth true) ∷ after)) top) (trivial (position n [])) (live (before ++ after) top)
-  splitting : (n : ℕ) (names : List ℕ) (before parts after : Theory) (f : Formula) (fs : Formulas) (top : ℕ)
-      → absent n before ≡ true → climbing top names ≡ true → Named names (part f fs) parts → sizesFit (formulasOf (before ++ (parts ++ after))) ≡ true
-      → Step P (live (before ++ (entry n (connective (junction all) (part f fs)) ∷ after)) top) (splitc (position n []) names)
-      (live (before ++ (parts ++ after)) (highest top names))
-  ending : (n : ℕ) (before after : Theory) (top : ℕ) → absent n before ≡ true
-      → Step P (live (before ++ (entry n (truth false) ∷ after)) top) (unsat (position n [])) (ended n top)
+      → Step P (live (before ++ (entry n (truth true) ∷ after)) used) (trivial (position n [])) (live (before ++ after) used)
+  splitting : (n : ℕ) (names : List ℕ) (before parts after : Theory) (f : Formula) (fs : Formulas) (used : ℕ)
+      → absent n before ≡ true → climbing used names ≡ true → Named names (part f fs) parts → sizesFit (formulasOf (before ++ (parts ++ after))) ≡ true
+      → Step P (live (before ++ (entry n (connective (junction all) (part f fs)) ∷ after)) used) (splitc (position n []) names)
+      (live (before ++ (parts ++ after)) (highest used names))
+  ending : (n : ℕ) (before after : Theory) (used : ℕ) → absent n before ≡ true
+      → Step P (live (before ++ (entry n (truth false) ∷ after)) used) (unsat (position n [])) (ended n used)
 
 -- line after line
 pub data Steps (P : Problem) : State → List RuleLine → State → Type 0 where

@@ -57,18 +57,18 @@ abbrev pub numbered : ℕ → List Formula → Theory
 numbered n [] = []
 numbered n (f ∷ fs) = entry n f ∷ numbered (suc n) fs
 
--- the live formulas with the greatest name used; after UNSAT, the name of the one formula `false`
+-- the live formulas, or after UNSAT the name of the one formula `false`; each with the greatest name used
 pub data State : Type 0 where
   live : Theory → ℕ → State
   ended : ℕ → ℕ → State
 
 abbrev pub liveTheory : State → Theory
-liveTheory (live t top) = t
-liveTheory (ended n top) = entry n (truth false) ∷ []
+liveTheory (live t used) = t
+liveTheory (ended n used) = entry n (truth false) ∷ []
 
 abbrev pub greatestUsed : State → ℕ
-greatestUsed (live t top) = top
-greatestUsed (ended n top) = top
+greatestUsed (live t used) = used
+greatestUsed (ended n used) = used
 
 abbrev pub initial : List Formula → State
 initial fs = live (numbered 1 fs) (length fs)
@@ -85,8 +85,8 @@ inPlace n k (e ∷ es) =
 
 -- no rule fits after UNSAT
 abbrev pub unlessEnded : {A : Type 0} → State → (Formula → Outcome ℕ A) → Formula → Outcome ℕ A
-unlessEnded (live t top) k f = k f
-unlessEnded (ended n top) k f = refused 13
+unlessEnded (live t used) k f = k f
+unlessEnded (ended n used) k f = refused 13
 
 -- a rule that takes no path
 abbrev pub wholeOnly : {A : Type 0} → List ℕ → (Formula → Outcome ℕ A) → Formula → Outcome ℕ A
@@ -118,16 +118,16 @@ split names f = onJunction (refused 13) (splitParts names) f
 
 -- each new name is greater than every name used before it
 abbrev pub climbing : ℕ → List ℕ → Bool
-climbing top [] = true
-climbing top (n ∷ ns) = ltb top n && climbing n ns
+climbing used [] = true
+climbing used (n ∷ ns) = ltb used n && climbing n ns
 
 abbrev pub highest : ℕ → List ℕ → ℕ
-highest top [] = top
-highest top (n ∷ ns) = highest n ns
+highest used [] = used
+highest used (n ∷ ns) = highest n ns
 
 -- 15: the live formulas within their sizes
 abbrev pub within : ℕ → Theory → Outcome ℕ State
-within top t = mapped (λ u. live t top) (provided (sizesFit (formulasOf t)) 15)
+within used t = mapped (λ u. live t used) (provided (sizesFit (formulasOf t)) 15)
 
 -- a rule line on a state: 11 for the target, then for new names; 12; 13, 14; 15
 unfoldable pub stepped : Problem → State → RuleLine → Outcome ℕ State

@@ -1,6 +1,7 @@
 // The end of a derivation: 16 and 17.
 use crate::live::Live;
 use crate::names::are_listed;
+use crate::size::LEVEL_COUNT;
 use formula::clause::are_clauses_at;
 use text::table::Table;
 ghost use mathlib.Core.Path.{_≡_};
@@ -30,7 +31,7 @@ pub fn end_number(
         return 0;
     }
     let full = live.full;
-    if are_clauses_at(&work[..full], 0, 32, live.count as u32, table) {
+    if are_clauses_at(&work[..full], 0, LEVEL_COUNT, live.count as u32, table) {
         return 0;
     }
     17

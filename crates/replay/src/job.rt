@@ -2,6 +2,7 @@
 use crate::clearing::clear;
 use crate::grounding::ground_theory;
 use crate::live::Layout;
+use crate::size::LEVEL_COUNT;
 use formula::cursor::Cursor;
 use formula::cursor::start;
 use formula::print::emit_lines;
@@ -82,7 +83,7 @@ fn printed(
     emit_lines(
         words,
         0,
-        32,
+        LEVEL_COUNT,
         count,
         problem,
         table,

@@ -8,6 +8,7 @@ pub mod live;
 pub mod names;
 pub mod replaying;
 pub mod rewriting;
+pub mod size;
 pub mod target;
 pub mod theory_reader;
 pub mod whole;

@@ -3,6 +3,8 @@ use crate::front::front_rewritten;
 use crate::live::Layout;
 use crate::live::Live;
 use crate::live::Step;
+use crate::size::LEVEL_COUNT;
+use crate::size::THEORY_SIZE;
 use crate::target::Target;
 use crate::target::path_target;
 use formula::admit::admitted;
@@ -35,7 +37,7 @@ fn misfit_of(fit: Fit, words: &[u32], at: usize) -> u32
         Fit::Value(_) => 0,
         Fit::Junction { every: _ } => 0,
         Fit::Quantifier => {
-            if guard_closed(words, at, 32) {
+            if guard_closed(words, at, LEVEL_COUNT) {
                 return 0;
             }
             14
@@ -52,7 +54,7 @@ fn flags_for(fit: Fit, words: &[u32], at: usize, table: Table, rows: &[u32]) -> 
     match fit {
         Fit::Value(_) => [false; 64],
         Fit::Junction { every: _ } => [false; 64],
-        Fit::Quantifier => admitted(words, at, 32, table, rows),
+        Fit::Quantifier => admitted(words, at, LEVEL_COUNT, table, rows),
         Fit::Misfit => [false; 64],
     }
 }
@@ -80,7 +82,7 @@ fn replaced(
         flags,
         domain,
     );
-    if total > 4096 {
+    if total > THEORY_SIZE {
         return Step::Refused(15);
     }
     Step::Done(Live {

@@ -1,4 +1,7 @@
 // A theory's text read into memory, line by line: 5 to 9.
+use crate::size::FORMULA_COUNT;
+use crate::size::GUARD_QUANTIFIER_COUNT;
+use crate::size::THEORY_SIZE;
 use formula::name_table::names_fit;
 use formula::theory_line::LineRead;
 use formula::theory_line::read_line;
@@ -22,13 +25,13 @@ pub enum TheoryRead {
 fn limits_fit(text: &[u8], names: &[u32; 131], full: usize, count: usize, guarded: u32) -> bool
     ensures { λ r. ⌜ r ≡ totalsFit full count guarded (namesIn (now (text .entry)) (now (names .entry))) ⌝ }
 {
-    if full > 4096 {
+    if full > THEORY_SIZE {
         return false;
     }
-    if count > 1024 {
+    if count > FORMULA_COUNT {
         return false;
     }
-    if guarded > 3 {
+    if guarded > GUARD_QUANTIFIER_COUNT {
         return false;
     }
     names_fit(text, names)
