@@ -7,6 +7,7 @@ pub mod Reading
 pub mod Lines
 pub mod Problem
 pub mod ProblemText
+pub mod ProblemRead
 pub mod Derivation
 pub mod Refusals
 pub mod NumberPlaces

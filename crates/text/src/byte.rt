@@ -47,7 +47,7 @@ pub fn is_small(b: u8) -> bool
     }
 }
 
-pub fn is_printable(b: u8) -> bool
+fn is_printable(b: u8) -> bool
     ensures { λ r. ⌜ r ≡ isPrintable b ⌝ }
 {
     match b {
@@ -57,7 +57,7 @@ pub fn is_printable(b: u8) -> bool
 }
 
 // Whether a byte is of a class.
-pub fn belongs(class: Class, b: u8) -> bool
+fn belongs(class: Class, b: u8) -> bool
     ensures { λ r. ⌜ r ≡ inClass class b ⌝ }
 {
     match class {

@@ -21,14 +21,14 @@ pub fn line_end(text: &[u8], at: usize) -> usize
 }
 
 // How many LFs a byte is: one, or none.
-pub fn feeds(b: u8) -> usize
+fn feeds(b: u8) -> usize
     ensures { λ r. ⌜ r ≡ cond (isLF b) 1 0 ⌝ }
 {
     if b == b'\n' { 1 } else { 0 }
 }
 
 // Where a line begins, counted from 1; the end, where there is no such line.
-pub fn line_start(text: &[u8], line: usize) -> usize
+fn line_start(text: &[u8], line: usize) -> usize
     ensures { λ r. ⌜ (r ≡ lineStart (now (text .entry)) line) × (r ≤ length (now (text .entry))) ⌝ }
 {
     if line == 0 {

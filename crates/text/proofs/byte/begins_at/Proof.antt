@@ -21,21 +21,30 @@ loop-holds : tie.Need-loop-holds Inv-loop μ-loop
 loop-holds c = (omega arith, rw (add-zero (c .args .at)))
 
 returns : tie.Need-returns Inv-loop μ-loop
-returns c = sym (c .before .before .loop .inv .1 ∙ begins-short (c .before .before .before .args .text .now) (c .before .before .before .args .word .now) (c .before .before .before .args .at + c .before .before .loop .i) (c .before .before .loop .i) (omega arith) (c .before .loop-test .taken))
+returns c =
+    let loop = c .before .before .loop in
+    let start = c .before .before .before in
+    sym (loop .inv .1 ∙ begins-short (start .args .text .now) (start .args .word .now) (start .args .at + loop .i) (loop .i) (omega arith) (c .before .loop-test .taken))
 
 returns-2 : tie.Need-returns-2 Inv-loop μ-loop
 returns-2 c =
+    let loop-test = c .before .before .before .before .loop-test in
+    let loop = c .before .before .before .before .before .loop in
     let a = c .before .before .before .before .before .before .args in
-    sym (c .before .before .before .before .before .loop .inv .1 ∙ begins-other (a .text .now) (a .word .now) (a .at + c .before .before .before .before .before .loop .i) (c .before .before .before .before .before .loop .i) (omega arith) (c .before .before .before .before .loop-test .taken) (λ e. c .if2 .taken (sym e)))
+    sym (loop .inv .1 ∙ begins-other (a .text .now) (a .word .now) (a .at + loop .i) (loop .i) (omega arith) (loop-test .taken) (λ e. c .if2 .taken (sym e)))
 
 loop-again : tie.Need-loop-again Inv-loop μ-loop
 loop-again c =
+    let loop-test = c .before .before .before .before .loop-test in
+    let loop = c .before .before .before .before .before .loop in
     let a = c .before .before .before .before .before .before .args in
-    let e : a .at + c .before .before .before .before .before .loop .i + 1 ≡ a .at + (c .before .before .before .before .before .loop .i + 1) = omega arith in
-    (omega arith, c .before .before .before .before .before .loop .inv .1 ∙ rw e at (begins-same (a .text .now) (a .word .now) (a .at + c .before .before .before .before .before .loop .i) (c .before .before .before .before .before .loop .i) (omega arith) (c .before .before .before .before .loop-test .taken) (sym (c .if2 .left))))
+    let e : a .at + loop .i + 1 ≡ a .at + (loop .i + 1) = omega arith in
+    (omega arith, loop .inv .1 ∙ rw e at (begins-same (a .text .now) (a .word .now) (a .at + loop .i) (loop .i) (omega arith) (loop-test .taken) (sym (c .if2 .left))))
 
 returns-3 : tie.Need-returns-3 Inv-loop μ-loop
-returns-3 c = sym (c .before .loop .inv .1 ∙ begins-all (c .before .before .args .word .now) (c .before .loop .i) (drop (c .before .before .args .at + c .before .loop .i) (c .before .before .args .text .now)) (c .loop-test .left))
+returns-3 c =
+    let start = c .before .before in
+    sym (c .before .loop .inv .1 ∙ begins-all (start .args .word .now) (c .before .loop .i) (drop (start .args .at + c .before .loop .i) (start .args .text .now)) (c .loop-test .left))
 
 pub begins-at-spec : {M : Type 1} → statement M
 begins-at-spec =

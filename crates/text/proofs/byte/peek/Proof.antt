@@ -6,7 +6,9 @@ use Rattle.text.proofs.byte.peek.Statement.{statement}
 use Rattle.text.proofs.byte.peek.Tie as tie
 
 returns : tie.Need-returns
-returns c = next-within (c .before .before .args .text .now) (c .before .before .args .at)
+returns c =
+    let start = c .before .before in
+    next-within (start .args .text .now) (start .args .at)
 
 returns-2 : tie.Need-returns-2
 returns-2 c = next-beyond (c .before .args .text .now) (c .before .args .at) (c .if1 .left)

@@ -23,14 +23,18 @@ loop-holds c = (omega arith, refl)
 
 returns : tie.Need-returns Inv-loop μ-loop
 returns c =
+    let loop-test = c .before .before .before .loop-test in
+    let loop = c .before .before .before .before .loop in
     let a = c .before .before .before .before .before .before .args in
-    let z = ap length (span-stop (a .text .now) (c .before .before .before .before .loop .i) (c .before .before .before .loop-test .taken) (inClass (a .class)) (sym (c .before .belongs .ensures) ∙ not-true _ (c .if1 .taken))) in
+    let z = ap length (span-stop (a .text .now) (loop .i) (loop-test .taken) (inClass (a .class)) (sym (c .before .belongs .ensures) ∙ not-true _ (c .if1 .taken))) in
     omega arith
 
 loop-again : tie.Need-loop-again Inv-loop μ-loop
 loop-again c =
+    let loop-test = c .before .before .before .loop-test in
+    let loop = c .before .before .before .before .loop in
     let a = c .before .before .before .before .before .before .args in
-    let z = ap length (span-more (a .text .now) (c .before .before .before .before .loop .i) (c .before .before .before .loop-test .taken) (inClass (a .class)) (sym (c .before .belongs .ensures) ∙ not-false _ (c .if1 .left))) in
+    let z = ap length (span-more (a .text .now) (loop .i) (loop-test .taken) (inClass (a .class)) (sym (c .before .belongs .ensures) ∙ not-false _ (c .if1 .left))) in
     omega arith
 
 returns-2 : tie.Need-returns-2 Inv-loop μ-loop

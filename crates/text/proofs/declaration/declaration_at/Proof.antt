@@ -18,9 +18,13 @@ returns c =
 
 returns-2 : tie.Need-returns-2
 returns-2 c =
+    let run-end = c .before .before .run-end in
+    let if1 = c .before .before .before .if1 in
+    let is-capital = c .before .before .before .before .is-capital in
+    let peek = c .before .before .before .before .before .peek in
     let a = c .before .before .before .before .before .before .before .args in
-    predicate-unparted (a .text .now) (a .at) (rw (c .before .before .before .before .before .peek .ensures) at (sym (c .before .before .before .before .is-capital .ensures) ∙ not-false _ (c .before .before .before .if1 .left)))
-    (c .before .before .run-end .result) (c .before .before .run-end .ensures .0) (c .before .before .run-end .ensures .1) (λ e. c .if2 .taken (c .before .peek2 .ensures ∙ e))
+    predicate-unparted (a .text .now) (a .at) (rw (peek .ensures) at (sym (is-capital .ensures) ∙ not-false _ (if1 .left)))
+    (run-end .result) (run-end .ensures .0) (run-end .ensures .1) (λ e. c .if2 .taken (c .before .peek2 .ensures ∙ e))
 
 last-number-requires : tie.Need-last-number-requires
 last-number-requires c κs =
@@ -30,24 +34,43 @@ last-number-requires c κs =
 
 returns-3 : tie.Need-returns-3
 returns-3 c =
+    let last-number = c .before .before .before .last-number in
+    let if2 = c .before .before .before .before .if2 in
+    let peek2 = c .before .before .before .before .before .peek2 in
+    let run-end = c .before .before .before .before .before .before .run-end in
+    let if1 = c .before .before .before .before .before .before .before .if1 in
+    let is-capital = c .before .before .before .before .before .before .before .before .is-capital in
+    let peek = c .before .before .before .before .before .before .before .before .before .peek in
     let a = c .before .before .before .before .before .before .before .before .before .before .before .args in
-    predicate-small (a .text .now) (a .at) (rw (c .before .before .before .before .before .before .before .before .before .peek .ensures) at (sym (c .before .before .before .before .before .before .before .before .is-capital .ensures) ∙ not-false _ (c .before .before .before .before .before .before .before .if1 .left)))
-    (c .before .before .before .before .before .before .run-end .result) (c .before .before .before .before .before .before .run-end .ensures .0) (c .before .before .before .before .before .before .run-end .ensures .1) (sym (c .before .before .before .before .before .peek2 .ensures) ∙ c .before .before .before .before .if2 .left) (c .before .next .given .0 .0) (c .before .next .given .0 .1 .0)
-    (subst (ToldLast readLastNumber (a .text .now) (c .before .before .before .before .before .before .run-end .result + 1)) (c .before .next .given .1) (c .before .before .before .last-number .ensures))
+    predicate-small (a .text .now) (a .at) (rw (peek .ensures) at (sym (is-capital .ensures) ∙ not-false _ (if1 .left)))
+    (run-end .result) (run-end .ensures .0) (run-end .ensures .1) (sym (peek2 .ensures) ∙ if2 .left) (c .before .next .given .0 .0) (c .before .next .given .0 .1 .0)
+    (subst (ToldLast readLastNumber (a .text .now) (run-end .result + 1)) (c .before .next .given .1) (last-number .ensures))
 
 returns-4 : tie.Need-returns-4
 returns-4 c =
+    let if2 = c .before .before .before .if2 in
+    let peek2 = c .before .before .before .before .peek2 in
+    let run-end = c .before .before .before .before .before .run-end in
+    let if1 = c .before .before .before .before .before .before .if1 in
+    let is-capital = c .before .before .before .before .before .before .before .is-capital in
+    let peek = c .before .before .before .before .before .before .before .before .peek in
     let a = c .before .before .before .before .before .before .before .before .before .before .args in
-    predicate-large (a .text .now) (a .at) (rw (c .before .before .before .before .before .before .before .before .peek .ensures) at (sym (c .before .before .before .before .before .before .before .is-capital .ensures) ∙ not-false _ (c .before .before .before .before .before .before .if1 .left)))
-    (c .before .before .before .before .before .run-end .result) (c .before .before .before .before .before .run-end .ensures .0) (c .before .before .before .before .before .run-end .ensures .1) (sym (c .before .before .before .before .peek2 .ensures) ∙ c .before .before .before .if2 .left) (c .enum-told .given .0 .0)
-    (subst (ToldLast readLastNumber (a .text .now) (c .before .before .before .before .before .run-end .result + 1)) (c .enum-told .given .1) (c .before .before .last-number .ensures))
+    predicate-large (a .text .now) (a .at) (rw (peek .ensures) at (sym (is-capital .ensures) ∙ not-false _ (if1 .left)))
+    (run-end .result) (run-end .ensures .0) (run-end .ensures .1) (sym (peek2 .ensures) ∙ if2 .left) (c .enum-told .given .0 .0)
+    (subst (ToldLast readLastNumber (a .text .now) (run-end .result + 1)) (c .enum-told .given .1) (c .before .before .last-number .ensures))
 
 returns-5 : tie.Need-returns-5
 returns-5 c =
+    let if2 = c .before .before .before .if2 in
+    let peek2 = c .before .before .before .before .peek2 in
+    let run-end = c .before .before .before .before .before .run-end in
+    let if1 = c .before .before .before .before .before .before .if1 in
+    let is-capital = c .before .before .before .before .before .before .before .is-capital in
+    let peek = c .before .before .before .before .before .before .before .before .peek in
     let a = c .before .before .before .before .before .before .before .before .before .before .args in
-    predicate-misspelled (a .text .now) (a .at) (rw (c .before .before .before .before .before .before .before .before .peek .ensures) at (sym (c .before .before .before .before .before .before .before .is-capital .ensures) ∙ not-false _ (c .before .before .before .before .before .before .if1 .left)))
-    (c .before .before .before .before .before .run-end .result) (c .before .before .before .before .before .run-end .ensures .0) (c .before .before .before .before .before .run-end .ensures .1) (sym (c .before .before .before .before .peek2 .ensures) ∙ c .before .before .before .if2 .left)
-    (subst (ToldLast readLastNumber (a .text .now) (c .before .before .before .before .before .run-end .result + 1)) (c .enum-told2 .given .1) (c .before .before .last-number .ensures))
+    predicate-misspelled (a .text .now) (a .at) (rw (peek .ensures) at (sym (is-capital .ensures) ∙ not-false _ (if1 .left)))
+    (run-end .result) (run-end .ensures .0) (run-end .ensures .1) (sym (peek2 .ensures) ∙ if2 .left)
+    (subst (ToldLast readLastNumber (a .text .now) (run-end .result + 1)) (c .enum-told2 .given .1) (c .before .before .last-number .ensures))
 
 pub declaration-at-spec : {M : Type 1} → statement M
 declaration-at-spec =

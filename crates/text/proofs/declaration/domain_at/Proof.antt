@@ -17,14 +17,16 @@ returns c =
 
 last-number-requires : tie.Need-last-number-requires
 last-number-requires c κs =
-    let a = c .before .before .before .before .args in
-    let w = word-found (a .text .now) (a .at) (bytes "domain=") (c .before .before .before .before .pre) (sym (c .before .begins-at .ensures) ∙ not-false _ (c .if1 .left)) in
+    let start = c .before .before .before .before in
+    let a = start .args in
+    let w = word-found (a .text .now) (a .at) (bytes "domain=") (start .pre) (sym (c .before .begins-at .ensures) ∙ not-false _ (c .if1 .left)) in
     omega (arith, w .within)
 
 returns-2 : tie.Need-returns-2
 returns-2 c =
-    let a = c .before .before .before .before .before .args in
-    let w = word-found (a .text .now) (a .at) (bytes "domain=") (c .before .before .before .before .before .pre) (sym (c .before .before .begins-at .ensures) ∙ not-false _ (c .before .if1 .left)) in
+    let start = c .before .before .before .before .before in
+    let a = start .args in
+    let w = word-found (a .text .now) (a .at) (bytes "domain=") (start .pre) (sym (c .before .before .begins-at .ensures) ∙ not-false _ (c .before .if1 .left)) in
     domain-behind (a .text .now) (a .at) w (c .last-number .result) (c .last-number .ensures)
 
 pub domain-at-spec : {M : Type 1} → statement M

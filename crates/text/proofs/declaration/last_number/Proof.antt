@@ -11,39 +11,49 @@ use Rattle.text.proofs.declaration.last_number.Tie as tie
 
 returns : tie.Need-returns
 returns c =
+    let next = c .before .before .before .next in
+    let number-at = c .before .before .before .before .before .number-at in
     let a = c .before .before .before .before .before .before .before .args in
-    last-small-unended (a .text .now) (a .at) (c .before .before .before .next .given .0 .0) (c .before .before .before .next .given .0 .1 .0)
-    (subst (ToldNumber (a .text .now) (a .at)) (c .before .before .before .next .given .1) (c .before .before .before .before .before .number-at .ensures)) (λ e. c .if1 .taken (c .before .peek .ensures ∙ e))
+    last-small-unended (a .text .now) (a .at) (next .given .0 .0) (next .given .0 .1 .0)
+    (subst (ToldNumber (a .text .now) (a .at)) (next .given .1) (number-at .ensures)) (λ e. c .if1 .taken (c .before .peek .ensures ∙ e))
 
 add-t10 : tie.Need-add-t10
 add-t10 c =
+    let next = c .before .before .before .next in
     let a = c .before .before .before .before .before .before .before .args in
-    let h = byte-inside (a .text .now) (c .before .before .before .next .given .0 .0) 10 (omega arith) (sym (c .before .peek .ensures) ∙ c .if1 .left) in
+    let h = byte-inside (a .text .now) (next .given .0 .0) 10 (omega arith) (sym (c .before .peek .ensures) ∙ c .if1 .left) in
     omega arith
 
 returns-2 : tie.Need-returns-2
 returns-2 c =
+    let next2 = c .before .before .before .next2 in
+    let number-at = c .before .before .before .before .before .number-at in
     let a = c .before .before .before .before .before .before .before .args in
-    last-large-unended (a .text .now) (a .at) (c .before .before .before .next2 .given .0 .0)
-    (subst (ToldNumber (a .text .now) (a .at)) (c .before .before .before .next2 .given .1) (c .before .before .before .before .before .number-at .ensures)) (λ e. c .if2 .taken (c .before .peek2 .ensures ∙ e))
+    last-large-unended (a .text .now) (a .at) (next2 .given .0 .0)
+    (subst (ToldNumber (a .text .now) (a .at)) (next2 .given .1) (number-at .ensures)) (λ e. c .if2 .taken (c .before .peek2 .ensures ∙ e))
 
 add-t13 : tie.Need-add-t13
 add-t13 c =
+    let next2 = c .before .before .before .next2 in
     let a = c .before .before .before .before .before .before .before .args in
-    let h = byte-inside (a .text .now) (c .before .before .before .next2 .given .0 .0) 10 (omega arith) (sym (c .before .peek2 .ensures) ∙ c .if2 .left) in
+    let h = byte-inside (a .text .now) (next2 .given .0 .0) 10 (omega arith) (sym (c .before .peek2 .ensures) ∙ c .if2 .left) in
     omega arith
 
 returns-3 : tie.Need-returns-3
 returns-3 c =
+    let next = c .before .before .before .next in
+    let number-at = c .before .before .before .before .before .number-at in
     let a = c .before .before .before .before .before .before .before .args in
-    last-small (a .text .now) (a .at) (c .before .before .before .next .given .0 .0) (c .before .before .before .next .given .0 .1 .0)
-    (subst (ToldNumber (a .text .now) (a .at)) (c .before .before .before .next .given .1) (c .before .before .before .before .before .number-at .ensures)) (sym (c .before .peek .ensures) ∙ c .if1 .left)
+    last-small (a .text .now) (a .at) (next .given .0 .0) (next .given .0 .1 .0)
+    (subst (ToldNumber (a .text .now) (a .at)) (next .given .1) (number-at .ensures)) (sym (c .before .peek .ensures) ∙ c .if1 .left)
 
 returns-4 : tie.Need-returns-4
 returns-4 c =
+    let next2 = c .before .before .before .next2 in
+    let number-at = c .before .before .before .before .before .number-at in
     let a = c .before .before .before .before .before .before .before .args in
-    last-large (a .text .now) (a .at) (c .before .before .before .next2 .given .0 .0)
-    (subst (ToldNumber (a .text .now) (a .at)) (c .before .before .before .next2 .given .1) (c .before .before .before .before .before .number-at .ensures)) (sym (c .before .peek2 .ensures) ∙ c .if2 .left)
+    last-large (a .text .now) (a .at) (next2 .given .0 .0)
+    (subst (ToldNumber (a .text .now) (a .at)) (next2 .given .1) (number-at .ensures)) (sym (c .before .peek2 .ensures) ∙ c .if2 .left)
 
 returns-5 : tie.Need-returns-5
 returns-5 c =

@@ -21,12 +21,14 @@ loop-holds c = (omega arith, refl)
 
 returns : tie.Need-returns Inv-loop μ-loop
 returns c =
-    let z = lineSize-stop (c .before .before .before .before .args .text .now) (c .before .before .before .loop .i) (c .before .before .loop-test .taken) (c .if1 .taken) in
+    let loop = c .before .before .before .loop in
+    let z = lineSize-stop (c .before .before .before .before .args .text .now) (loop .i) (c .before .before .loop-test .taken) (c .if1 .taken) in
     omega arith
 
 loop-again : tie.Need-loop-again Inv-loop μ-loop
 loop-again c =
-    let z = lineSize-more (c .before .before .before .before .args .text .now) (c .before .before .before .loop .i) (c .before .before .loop-test .taken) (c .if1 .left) in
+    let loop = c .before .before .before .loop in
+    let z = lineSize-more (c .before .before .before .before .args .text .now) (loop .i) (c .before .before .loop-test .taken) (c .if1 .left) in
     omega arith
 
 returns-2 : tie.Need-returns-2 Inv-loop μ-loop

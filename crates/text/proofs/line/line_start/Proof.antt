@@ -20,7 +20,9 @@ returns : tie.Need-returns Inv-loop μ-loop
 returns c = (rw (c .if1 .taken), omega arith)
 
 loop-holds : tie.Need-loop-holds Inv-loop μ-loop
-loop-holds c = let z = lineStart-later (c .before .before .args .text .now) (c .before .before .args .line) (c .if1 .left) in (omega arith, omega arith)
+loop-holds c =
+    let start = c .before .before in
+    let z = lineStart-later (start .args .text .now) (start .args .line) (c .if1 .left) in (omega arith, omega arith)
 
 returns-2 : tie.Need-returns-2 Inv-loop μ-loop
 returns-2 c =
@@ -29,13 +31,16 @@ returns-2 c =
 
 sub-left-2 : tie.Need-sub-left-2 Inv-loop μ-loop
 sub-left-2 c =
-    let z = feeds-atmost (isLF (getD (c .before .before .before .before .before .before .before .args .text .now) (c .before .before .before .before .loop .i) 0)) (c .before .before .before .before .loop .left) (c .before .before .if2 .left) in
+    let loop = c .before .before .before .before .loop in
+    let z = feeds-atmost (isLF (getD (c .before .before .before .before .before .before .before .args .text .now) (loop .i) 0)) (loop .left) (c .before .before .if2 .left) in
     omega (arith, c .feeds .ensures)
 
 loop-again : tie.Need-loop-again Inv-loop μ-loop
 loop-again c =
+    let loop-test = c .before .before .before .loop-test in
+    let loop = c .before .before .before .before .loop in
     let a = c .before .before .before .before .before .before .before .args in
-    let z = linesSize-more (a .text .now) (c .before .before .before .before .loop .i) (c .before .before .before .loop-test .taken) (c .before .before .before .before .loop .left) (omega (arith, c .before .before .if2 .left)) in
+    let z = linesSize-more (a .text .now) (loop .i) (loop-test .taken) (loop .left) (omega (arith, c .before .before .if2 .left)) in
     (omega arith, rw (c .feeds .ensures) (omega arith))
 
 returns-3 : tie.Need-returns-3 Inv-loop μ-loop

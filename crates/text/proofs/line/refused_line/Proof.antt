@@ -11,9 +11,10 @@ use Rattle.text.proofs.line.refused_line.Tie as tie
 
 returns : tie.Need-returns
 returns c =
+    let line-start = c .before .before .line-start in
     let s = c .before .before .before .before .args .text .now in
-    let e : c .before .line-end .result - c .before .before .line-start .result ≡ lineSize (drop (c .before .before .line-start .result) s) = omega (arith, c .before .line-end .ensures .0) in
-    rw (← c .before .before .line-start .ensures .0, e)
+    let e : c .before .line-end .result - line-start .result ≡ lineSize (drop (line-start .result) s) = omega (arith, c .before .line-end .ensures .0) in
+    rw (← line-start .ensures .0, e)
 
 pub refused-line-spec : {M : Type 1} → statement M
 refused-line-spec =

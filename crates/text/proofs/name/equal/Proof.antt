@@ -26,13 +26,17 @@ loop-holds c = (omega arith, refl)
 
 returns-2 : tie.Need-returns-2 Inv-loop μ-loop
 returns-2 c =
+    let loop-test = c .before .before .before .loop-test in
+    let loop = c .before .before .before .before .loop in
     let a = c .before .before .before .before .before .before .args in
-    sym (c .before .before .before .before .loop .inv .1 ∙ same-off (a .a .now) (a .b .now) (c .before .before .before .before .loop .i) (c .before .before .before .loop-test .taken) (omega arith) (c .if2 .taken))
+    sym (loop .inv .1 ∙ same-off (a .a .now) (a .b .now) (loop .i) (loop-test .taken) (omega arith) (c .if2 .taken))
 
 loop-again : tie.Need-loop-again Inv-loop μ-loop
 loop-again c =
+    let loop-test = c .before .before .before .loop-test in
+    let loop = c .before .before .before .before .loop in
     let a = c .before .before .before .before .before .before .args in
-    (omega arith, c .before .before .before .before .loop .inv .1 ∙ same-on (a .a .now) (a .b .now) (c .before .before .before .before .loop .i) (c .before .before .before .loop-test .taken) (omega arith) (c .if2 .left))
+    (omega arith, loop .inv .1 ∙ same-on (a .a .now) (a .b .now) (loop .i) (loop-test .taken) (omega arith) (c .if2 .left))
 
 returns-3 : tie.Need-returns-3 Inv-loop μ-loop
 returns-3 c =

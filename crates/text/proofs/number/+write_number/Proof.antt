@@ -36,19 +36,23 @@ write-number-calls t = (put-reads.Asked, put-reads.Learnt, write-number-below t,
 
 write-number-returns : (t : ℕ) → write-number-lts.Need-returns (write-number-calls t) (write-number-at t) write-number.Post
 write-number-returns t c =
+    let if1 = c .before .before .before .before .if1 in
     let a = c .before .before .before .before .before .before .args in
-    (c .before .before .put .ensures ∙ write-one (a .n) (c .before .before .before .before .if1 .taken) (a .out .now) (a .at), length-one (a .n) (c .before .before .before .before .if1 .taken) (a .at))
+    (c .before .before .put .ensures ∙ write-one (a .n) (if1 .taken) (a .out .now) (a .at), length-one (a .n) (if1 .taken) (a .at))
 
 write-number-add-result-2 : (t : ℕ) → write-number-lts.Need-add-result-2 (write-number-calls t) (write-number-at t) write-number.Post
 write-number-add-result-2 t c =
+    let write-number-told = c .before .before .before .before .before .before .write-number in
     let a = c .before .before .before .before .before .before .before .before .before .before .args in
-    omega (arith, c .before .before .before .before .before .before .write-number .ensures .1, length-decimal (a .n / 10))
+    omega (arith, write-number-told .ensures .1, length-decimal (a .n / 10))
 
 write-number-returns-2 : (t : ℕ) → write-number-lts.Need-returns-2 (write-number-calls t) (write-number-at t) write-number.Post
 write-number-returns-2 t c =
+    let write-number-told = c .before .before .before .before .before .before .write-number in
+    let if1 = c .before .before .before .before .before .before .before .before .if1 in
     let a = c .before .before .before .before .before .before .before .before .before .before .args in
-    let e = c .before .before .before .before .before .before .write-number .ensures in
-    (write-more (a .n) (c .before .before .before .before .before .before .before .before .if1 .left) (a .out .now) (a .at) (e .0) (e .1) (c .before .before .put2 .ensures), rw (e .1) (length-more (a .n) (c .before .before .before .before .before .before .before .before .if1 .left) (a .at)))
+    let e = write-number-told .ensures in
+    (write-more (a .n) (if1 .left) (a .out .now) (a .at) (e .0) (e .1) (c .before .before .put2 .ensures), rw (e .1) (length-more (a .n) (if1 .left) (a .at)))
 
 pub +write-number-spec : {M : Type 1} → statement M
 +write-number-spec = close μ-write-number λ t. write-number-lts.spec (write-number-calls t)

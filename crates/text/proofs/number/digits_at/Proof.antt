@@ -22,23 +22,32 @@ loop-holds c = digits-first (c .before .args .text .now) (c .before .args .at)
 
 returns : tie.Need-returns Inv-loop μ-loop
 returns c =
-    let text = c .before .before .before .before .before .before .args .text .now in
-    digits-stop text (c .before .before .before .before .before .before .args .at) _ _ (c .before .before .before .before .loop .inv)
-    (span-stop text (c .before .before .before .before .loop .i) (c .before .before .before .loop-test .taken) isDigit (sym (c .before .is-digit .ensures) ∙ not-true _ (c .if1 .taken)))
+    let loop-test = c .before .before .before .loop-test in
+    let loop = c .before .before .before .before .loop in
+    let start = c .before .before .before .before .before .before in
+    let text = start .args .text .now in
+    digits-stop text (start .args .at) _ _ (loop .inv)
+    (span-stop text (loop .i) (loop-test .taken) isDigit (sym (c .before .is-digit .ensures) ∙ not-true _ (c .if1 .taken)))
 
 with-digit-requires : tie.Need-with-digit-requires Inv-loop μ-loop
-with-digit-requires c κs = (c .before .before .before .before .loop .inv .small, sym (c .before .is-digit .ensures) ∙ not-false _ (c .if1 .left))
+with-digit-requires c κs =
+    let loop = c .before .before .before .before .loop in
+    (loop .inv .small, sym (c .before .is-digit .ensures) ∙ not-false _ (c .if1 .left))
 
 loop-again : tie.Need-loop-again Inv-loop μ-loop
 loop-again c =
+    let loop-test = c .before .before .before .before .loop-test in
+    let loop = c .before .before .before .before .before .loop in
+    let start = c .before .before .before .before .before .before .before in
     rw (c .with-digit .ensures)
-    (digits-on (c .before .before .before .before .before .before .before .args .text .now) (c .before .before .before .before .before .before .before .args .at) (c .before .before .before .before .before .loop .value) (c .before .before .before .before .before .loop .i) (c .before .before .before .before .before .loop .inv) (c .before .before .before .before .loop-test .taken)
+    (digits-on (start .args .text .now) (start .args .at) (loop .value) (loop .i) (loop .inv) (loop-test .taken)
     (sym (c .before .before .is-digit .ensures) ∙ not-false _ (c .before .if1 .left)))
 
 returns-2 : tie.Need-returns-2 Inv-loop μ-loop
 returns-2 c =
-    let text = c .before .before .before .args .text .now in
-    digits-stop text (c .before .before .before .args .at) _ _ (c .before .loop .inv) (span-beyond text (c .before .loop .i) isDigit (c .loop-test .left))
+    let start = c .before .before .before in
+    let text = start .args .text .now in
+    digits-stop text (start .args .at) _ _ (c .before .loop .inv) (span-beyond text (c .before .loop .i) isDigit (c .loop-test .left))
 
 pub digits-at-spec : {M : Type 1} → statement M
 digits-at-spec =

@@ -9,18 +9,24 @@ use Rattle.text.proofs.number.number_at.Tie as tie
 
 returns : tie.Need-returns
 returns c =
-    let a = c .before .before .before .before .args in
-    number-misspelled (a .text .now) (a .at) (c .before .before .digits-at .result) (c .before .before .digits-at .ensures) (c .before .before .before .before .pre) (sym (c .before .well-spelled .ensures) ∙ not-true _ (c .if1 .taken))
+    let digits-at = c .before .before .digits-at in
+    let start = c .before .before .before .before in
+    let a = start .args in
+    number-misspelled (a .text .now) (a .at) (digits-at .result) (digits-at .ensures) (start .pre) (sym (c .before .well-spelled .ensures) ∙ not-true _ (c .if1 .taken))
 
 returns-2 : tie.Need-returns-2
 returns-2 c =
-    let a = c .before .before .before .before .before .args in
-    number-small (a .text .now) (a .at) (c .before .before .before .digits-at .result) (c .before .before .before .digits-at .ensures) (c .before .before .before .before .before .pre) (sym (c .before .before .well-spelled .ensures) ∙ not-false _ (c .before .if1 .left)) (c .if2 .taken)
+    let digits-at = c .before .before .before .digits-at in
+    let start = c .before .before .before .before .before in
+    let a = start .args in
+    number-small (a .text .now) (a .at) (digits-at .result) (digits-at .ensures) (start .pre) (sym (c .before .before .well-spelled .ensures) ∙ not-false _ (c .before .if1 .left)) (c .if2 .taken)
 
 returns-3 : tie.Need-returns-3
 returns-3 c =
-    let a = c .before .before .before .before .before .args in
-    number-large (a .text .now) (a .at) (c .before .before .before .digits-at .result) (c .before .before .before .digits-at .ensures) (c .before .before .before .before .before .pre) (sym (c .before .before .well-spelled .ensures) ∙ not-false _ (c .before .if1 .left)) (c .if2 .left)
+    let digits-at = c .before .before .before .digits-at in
+    let start = c .before .before .before .before .before in
+    let a = start .args in
+    number-large (a .text .now) (a .at) (digits-at .result) (digits-at .ensures) (start .pre) (sym (c .before .before .well-spelled .ensures) ∙ not-false _ (c .before .if1 .left)) (c .if2 .left)
 
 pub number-at-spec : {M : Type 1} → statement M
 number-at-spec =

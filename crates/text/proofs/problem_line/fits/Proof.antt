@@ -7,18 +7,21 @@ use Rattle.text.proofs.problem_line.fits.Tie as tie
 
 returns : tie.Need-returns
 returns c =
-    let a = c .before .before .args in
-    fits-arity (a .text .now) (a .table) (a .start) (a .size) (a .arity) (c .before .before .pre) (c .if1 .taken)
+    let start = c .before .before in
+    let a = start .args in
+    fits-arity (a .text .now) (a .table) (a .start) (a .size) (a .arity) (start .pre) (c .if1 .taken)
 
 returns-2 : tie.Need-returns-2
 returns-2 c =
-    let a = c .before .before .before .args in
-    fits-size (a .text .now) (a .table) (a .start) (a .size) (a .arity) (c .before .before .before .pre) (c .if2 .taken)
+    let start = c .before .before .before in
+    let a = start .args in
+    fits-size (a .text .now) (a .table) (a .start) (a .size) (a .arity) (start .pre) (c .if2 .taken)
 
 returns-3 : tie.Need-returns-3
 returns-3 c =
-    let a = c .before .before .before .before .before .args in
-    fits-count (a .text .now) (a .table) (a .start) (a .size) (a .arity) (c .before .before .before .before .before .pre) (c .if3 .taken)
+    let start = c .before .before .before .before .before in
+    let a = start .args in
+    fits-count (a .text .now) (a .table) (a .start) (a .size) (a .arity) (start .pre) (c .if3 .taken)
 
 returns-4 : tie.Need-returns-4
 returns-4 c =

@@ -37,8 +37,9 @@ loop-holds c =
 
 line-at-requires : tie.Need-line-at-requires Inv-loop μ-loop
 line-at-requires c κs =
+    let start = c .before .before .before .before .before .before in
     let l = c .before .before .loop in
-    let pre = c .before .before .before .before .before .before .pre in
+    let pre = start .pre in
     (l .inv .0 .going .within, pre .0, l .inv .0 .standing, omega (arith, l .inv .1, pre .1))
 
 same-length : tie.Need-same-length Inv-loop μ-loop
@@ -57,8 +58,10 @@ returns c =
 
 add-line : tie.Need-add-line Inv-loop μ-loop
 add-line c =
-    let going = c .before .before .before .before .before .before .before .before .loop .inv .0 in
-    omega (arith, going .lines, going .going .within, c .before .before .before .before .before .before .before .before .before .before .before .before .pre .0)
+    let loop = c .before .before .before .before .before .before .before .before .loop in
+    let start = c .before .before .before .before .before .before .before .before .before .before .before .before in
+    let going = loop .inv .0 in
+    omega (arith, going .lines, going .going .within, start .pre .0)
 
 loop-less : tie.Need-loop-less Inv-loop μ-loop
 loop-less c =
@@ -77,12 +80,15 @@ loop-again c =
     )
 
 same-length-2 : tie.Need-same-length-2 Inv-loop μ-loop
-same-length-2 c = c .before .before .before .loop .inv .1
+same-length-2 c =
+    let loop = c .before .before .before .loop in
+    loop .inv .1
 
 returns-2 : tie.Need-returns-2 Inv-loop μ-loop
 returns-2 c =
+    let loop = c .before .before .before .loop in
     let a = c .before .before .before .before .before .before .before .args in
-    let l = c .before .before .before .loop in
+    let l = loop in
     rw (c .ended .ensures) (problem-end (a .text .now) (l .progress) (l .rows) (l .at) (l .line) (l .inv .0) (c .before .before .loop-test .left))
 
 pub read-problem-spec : {M : Type 1} → statement M

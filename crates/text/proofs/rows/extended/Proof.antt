@@ -10,8 +10,9 @@ use Rattle.text.proofs.rows.extended.Tie as tie
 
 returns : tie.Need-returns
 returns c =
+    let row = c .before .before .row in
     let a = c .before .before .before .before .args in
-    rw (c .before .before .row .given .1) (row-long (a .domain) (a .v) (c .before .before .row .given .0 .0) (c .before .before .row .given .0 .1 .0) (c .before .before .row .given .0 .1 .1 .0) (c .if1 .taken))
+    rw (row .given .1) (row-long (a .domain) (a .v) (row .given .0 .0) (row .given .0 .1 .0) (row .given .0 .1 .1 .0) (c .if1 .taken))
 
 returns-2 : tie.Need-returns-2
 returns-2 c =
@@ -25,25 +26,33 @@ returns-3 c =
 
 add-t11 : tie.Need-add-t11
 add-t11 c =
-    let b = subst RowBounded (c .before .before .before .before .before .row .given .1) (c .before .before .before .before .before .before .before .pre .1) in
+    let row = c .before .before .before .before .before .row in
+    let start = c .before .before .before .before .before .before .before in
+    let b = subst RowBounded (row .given .1) (start .pre .1) in
     omega (arith, c .placed-at .ensures .1)
 
 mul-t12 : tie.Need-mul-t12
 mul-t12 c =
-    let b = subst RowBounded (c .before .before .before .before .before .row .given .1) (c .before .before .before .before .before .before .before .pre .1) in
+    let row = c .before .before .before .before .before .row in
+    let start = c .before .before .before .before .before .before .before in
+    let b = subst RowBounded (row .given .1) (start .pre .1) in
     omega arith
 
 add-t13 : tie.Need-add-t13
 add-t13 c =
-    let b = subst RowBounded (c .before .before .before .before .before .row .given .1) (c .before .before .before .before .before .before .before .pre .1) in
+    let row = c .before .before .before .before .before .row in
+    let start = c .before .before .before .before .before .before .before in
+    let b = subst RowBounded (row .given .1) (start .pre .1) in
     omega arith
 
 returns-4 : tie.Need-returns-4
 returns-4 c =
+    let if1 = c .before .before .before .if1 in
+    let row = c .before .before .before .before .before .row in
     let a = c .before .before .before .before .before .before .before .args in
-    rw (c .before .before .before .before .before .row .given .1)
-    (row-more (a .domain) (a .v) (c .before .before .before .before .before .row .given .0 .0) (c .before .before .before .before .before .row .given .0 .1 .0) (c .before .before .before .before .before .row .given .0 .1 .1 .0)
-    (c .before .before .before .if1 .left) (c .before .before .if2 .left) (c .before .if3 .left) (c .placed-at .result) (c .placed-at .ensures .0))
+    rw (row .given .1)
+    (row-more (a .domain) (a .v) (row .given .0 .0) (row .given .0 .1 .0) (row .given .0 .1 .1 .0)
+    (if1 .left) (c .before .before .if2 .left) (c .before .if3 .left) (c .placed-at .result) (c .placed-at .ensures .0))
 
 returns-5 : tie.Need-returns-5
 returns-5 c =

@@ -18,42 +18,65 @@ returns c =
 
 begins-at-requires-2 : tie.Need-begins-at-requires-2
 begins-at-requires-2 c κs =
-    let a = c .before .before .before .before .before .before .args in
-    let w = word-found (a .text .now) (a .at) (bytes "rows=") (c .before .before .before .before .before .before .pre .0) (sym (c .before .before .begins-at .ensures) ∙ not-false _ (c .before .if1 .left)) in
+    let start = c .before .before .before .before .before .before in
+    let a = start .args in
+    let w = word-found (a .text .now) (a .at) (bytes "rows=") (start .pre .0) (sym (c .before .before .begins-at .ensures) ∙ not-false _ (c .before .if1 .left)) in
     omega (arith, w .within)
 
 returns-2 : tie.Need-returns-2
 returns-2 c =
-    let a = c .before .before .before .before .before .before .before .before .before .args in
-    let w = word-found (a .text .now) (a .at) (bytes "rows=") (c .before .before .before .before .before .before .before .before .before .pre .0) (sym (c .before .before .before .before .before .begins-at .ensures) ∙ not-false _ (c .before .before .before .before .if1 .left)) in
+    let if1 = c .before .before .before .before .if1 in
+    let begins-at = c .before .before .before .before .before .begins-at in
+    let start = c .before .before .before .before .before .before .before .before .before in
+    let a = start .args in
+    let w = word-found (a .text .now) (a .at) (bytes "rows=") (start .pre .0) (sym (begins-at .ensures) ∙ not-false _ (if1 .left)) in
     let v = word-found (a .text .now) (a .at + 5) (bytes "true") (w .within) (sym (c .before .before .begins-at2 .ensures) ∙ c .before .if2 .taken) in
     relation-true (a .domain) (a .total) (a .arity) (a .to) (a .rows .now) (a .text .now) (a .at) w v (c .truth-at .result) (c .truth-at .ensures)
 
 begins-at-requires-3 : tie.Need-begins-at-requires-3
 begins-at-requires-3 c κs =
-    let a = c .before .before .before .before .before .before .before .before .before .args in
-    let w = word-found (a .text .now) (a .at) (bytes "rows=") (c .before .before .before .before .before .before .before .before .before .pre .0) (sym (c .before .before .before .before .before .begins-at .ensures) ∙ not-false _ (c .before .before .before .before .if1 .left)) in
+    let if1 = c .before .before .before .before .if1 in
+    let begins-at = c .before .before .before .before .before .begins-at in
+    let start = c .before .before .before .before .before .before .before .before .before in
+    let a = start .args in
+    let w = word-found (a .text .now) (a .at) (bytes "rows=") (start .pre .0) (sym (begins-at .ensures) ∙ not-false _ (if1 .left)) in
     omega (arith, w .within)
 
 returns-3 : tie.Need-returns-3
 returns-3 c =
-    let a = c .before .before .before .before .before .before .before .before .before .before .before .before .args in
-    let w = word-found (a .text .now) (a .at) (bytes "rows=") (c .before .before .before .before .before .before .before .before .before .before .before .before .pre .0) (sym (c .before .before .before .before .before .before .before .before .begins-at .ensures) ∙ not-false _ (c .before .before .before .before .before .before .before .if1 .left)) in
+    let if2 = c .before .before .before .before .if2 in
+    let begins-at2 = c .before .before .before .before .before .begins-at2 in
+    let if1 = c .before .before .before .before .before .before .before .if1 in
+    let begins-at = c .before .before .before .before .before .before .before .before .begins-at in
+    let start = c .before .before .before .before .before .before .before .before .before .before .before .before in
+    let a = start .args in
+    let w = word-found (a .text .now) (a .at) (bytes "rows=") (start .pre .0) (sym (begins-at .ensures) ∙ not-false _ (if1 .left)) in
     let v = word-found (a .text .now) (a .at + 5) (bytes "false") (w .within) (sym (c .before .before .begins-at3 .ensures) ∙ c .before .if3 .taken) in
-    relation-false (a .domain) (a .total) (a .arity) (a .to) (a .rows .now) (a .text .now) (a .at) w (sym (c .before .before .before .before .before .begins-at2 .ensures) ∙ c .before .before .before .before .if2 .left) v (c .truth-at2 .result) (c .truth-at2 .ensures)
+    relation-false (a .domain) (a .total) (a .arity) (a .to) (a .rows .now) (a .text .now) (a .at) w (sym (begins-at2 .ensures) ∙ if2 .left) v (c .truth-at2 .result) (c .truth-at2 .ensures)
 
 listed-at-requires : tie.Need-listed-at-requires
 listed-at-requires c κs =
-    let a = c .before .before .before .before .before .before .before .before .before .before .before .before .args in
-    let w = word-found (a .text .now) (a .at) (bytes "rows=") (c .before .before .before .before .before .before .before .before .before .before .before .before .pre .0) (sym (c .before .before .before .before .before .before .before .before .begins-at .ensures) ∙ not-false _ (c .before .before .before .before .before .before .before .if1 .left)) in
-    (omega (arith, w .within), c .before .before .before .before .before .before .before .before .before .before .before .before .pre .1, c .before .before .before .before .before .before .before .before .before .before .before .before .pre .2, c .before .before .before .before .before .before .before .before .before .before .before .before .pre .3, c .before .before .before .before .before .before .before .before .before .before .before .before .pre .4)
+    let if1 = c .before .before .before .before .before .before .before .if1 in
+    let begins-at = c .before .before .before .before .before .before .before .before .begins-at in
+    let start = c .before .before .before .before .before .before .before .before .before .before .before .before in
+    let a = start .args in
+    let w = word-found (a .text .now) (a .at) (bytes "rows=") (start .pre .0) (sym (begins-at .ensures) ∙ not-false _ (if1 .left)) in
+    (omega (arith, w .within), start .pre .1, start .pre .2, start .pre .3, start .pre .4)
 
 returns-4 : tie.Need-returns-4
 returns-4 c =
-    let a = c .before .before .before .before .before .before .before .before .before .before .before .before .before .before .before .args in
-    let w = word-found (a .text .now) (a .at) (bytes "rows=") (c .before .before .before .before .before .before .before .before .before .before .before .before .before .before .before .pre .0) (sym (c .before .before .before .before .before .before .before .before .before .before .before .begins-at .ensures) ∙ not-false _ (c .before .before .before .before .before .before .before .before .before .before .if1 .left)) in
-    relation-listed (a .domain) (a .total) (a .arity) (a .to) (a .rows .now) (a .text .now) (a .at) w (sym (c .before .before .before .before .before .before .before .before .begins-at2 .ensures) ∙ c .before .before .before .before .before .before .before .if2 .left) (sym (c .before .before .before .before .before .begins-at3 .ensures) ∙ c .before .before .before .before .if3 .left)
-    (c .before .before .listed-at .last .1 .1 .1 .1 .1 .0) (c .before .before .listed-at .result) (c .before .before .listed-at .ensures)
+    let listed-at = c .before .before .listed-at in
+    let if3 = c .before .before .before .before .if3 in
+    let begins-at3 = c .before .before .before .before .before .begins-at3 in
+    let if2 = c .before .before .before .before .before .before .before .if2 in
+    let begins-at2 = c .before .before .before .before .before .before .before .before .begins-at2 in
+    let if1 = c .before .before .before .before .before .before .before .before .before .before .if1 in
+    let begins-at = c .before .before .before .before .before .before .before .before .before .before .before .begins-at in
+    let start = c .before .before .before .before .before .before .before .before .before .before .before .before .before .before .before in
+    let a = start .args in
+    let w = word-found (a .text .now) (a .at) (bytes "rows=") (start .pre .0) (sym (begins-at .ensures) ∙ not-false _ (if1 .left)) in
+    relation-listed (a .domain) (a .total) (a .arity) (a .to) (a .rows .now) (a .text .now) (a .at) w (sym (begins-at2 .ensures) ∙ if2 .left) (sym (begins-at3 .ensures) ∙ if3 .left)
+    (listed-at .last .1 .1 .1 .1 .1 .0) (listed-at .result) (listed-at .ensures)
 
 pub relation-at-spec : {M : Type 1} → statement M
 relation-at-spec =

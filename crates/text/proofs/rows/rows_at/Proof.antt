@@ -6,8 +6,10 @@ use Rattle.text.proofs.rows.rows_at.Tie as tie
 
 returns : tie.Need-returns
 returns c =
-    let a = c .before .before .before .before .before .before .before .before .before .before .args in
-    c .before .before .rows-of .ensures .told (a .domain) (a .total) (a .rows .now) (a .text .now) (a .at) (c .before .before .before .before .before .before .before .before .before .before .pre .3) (c .before .before .before .before .before .before .relation-at .ensures)
+    let relation-at = c .before .before .before .before .before .before .relation-at in
+    let start = c .before .before .before .before .before .before .before .before .before .before in
+    let a = start .args in
+    c .before .before .rows-of .ensures .told (a .domain) (a .total) (a .rows .now) (a .text .now) (a .at) (start .pre .3) (relation-at .ensures)
 
 pub rows-at-spec : {M : Type 1} → statement M
 rows-at-spec = tie.close (tie.spec (λ c κs. search needs) (λ c κs. search needs) (λ c. search needs) returns)

@@ -24,44 +24,56 @@ loop-holds c =
 
 element-at-requires : tie.Need-element-at-requires Inv-loop μ-loop
 element-at-requires c κs =
-    let a = c .before .before .args in
+    let start = c .before .before in
+    let a = start .args in
     let l = c .loop in
-    (omega (arith, l .inv .listing .within), c .before .before .pre .1, tuple-bounded (a .domain) (a .text .now) (a .at) (l .row) (l .i) (l .inv) (c .before .before .pre .1))
+    (omega (arith, l .inv .listing .within), start .pre .1, tuple-bounded (a .domain) (a .text .now) (a .at) (l .row) (l .i) (l .inv) (start .pre .1))
 
 returns : tie.Need-returns Inv-loop μ-loop
 returns c =
+    let loop = c .before .before .before .loop in
     let a = c .before .before .before .before .before .args in
-    let l = c .before .before .before .loop in
+    let l = loop in
     tuple-refused (a .domain) (a .text .now) (a .at) (l .row) (l .i) (l .inv)
     (subst (ToldElement (a .domain) (l .row) (a .text .now) (l .i)) (c .enum-told .given .1) (c .before .before .element-at .ensures))
 
 returns-2 : tie.Need-returns-2 Inv-loop μ-loop
 returns-2 c =
+    let next = c .before .before .before .next in
+    let element-at = c .before .before .before .before .before .element-at in
+    let loop = c .before .before .before .before .before .before .loop in
     let a = c .before .before .before .before .before .before .before .before .args in
-    let l = c .before .before .before .before .before .before .loop in
-    tuple-last (a .domain) (a .text .now) (a .at) (l .row) (l .i) (l .inv) (c .before .before .before .next .given .0 .1 .0) (c .before .before .before .next .given .0 .0)
-    (subst (ToldElement (a .domain) (l .row) (a .text .now) (l .i)) (c .before .before .before .next .given .1) (c .before .before .before .before .before .element-at .ensures)) (λ e. c .if1 .taken (c .before .peek .ensures ∙ e))
+    let l = loop in
+    tuple-last (a .domain) (a .text .now) (a .at) (l .row) (l .i) (l .inv) (next .given .0 .1 .0) (next .given .0 .0)
+    (subst (ToldElement (a .domain) (l .row) (a .text .now) (l .i)) (next .given .1) (element-at .ensures)) (λ e. c .if1 .taken (c .before .peek .ensures ∙ e))
 
 add-i : tie.Need-add-i Inv-loop μ-loop
 add-i c =
+    let next = c .before .before .before .next in
     let a = c .before .before .before .before .before .before .before .before .args in
-    let h = byte-inside (a .text .now) (c .before .before .before .next .given .0 .0) 46 (omega arith) (sym (c .before .peek .ensures) ∙ c .if1 .left) in
+    let h = byte-inside (a .text .now) (next .given .0 .0) 46 (omega arith) (sym (c .before .peek .ensures) ∙ c .if1 .left) in
     omega arith
 
 loop-less : tie.Need-loop-less Inv-loop μ-loop
 loop-less c =
+    let next = c .before .before .before .next in
+    let element-at = c .before .before .before .before .before .element-at in
+    let loop = c .before .before .before .before .before .before .loop in
     let a = c .before .before .before .before .before .before .before .before .args in
-    let l = c .before .before .before .before .before .before .loop in
-    let h = byte-inside (a .text .now) (c .before .before .before .next .given .0 .0) 46 (omega arith) (sym (c .before .peek .ensures) ∙ c .if1 .left) in
-    let f = subst (ToldElement (a .domain) (l .row) (a .text .now) (l .i)) (c .before .before .before .next .given .1) (c .before .before .before .before .before .element-at .ensures) in
+    let l = loop in
+    let h = byte-inside (a .text .now) (next .given .0 .0) 46 (omega arith) (sym (c .before .peek .ensures) ∙ c .if1 .left) in
+    let f = subst (ToldElement (a .domain) (l .row) (a .text .now) (l .i)) (next .given .1) (element-at .ensures) in
     omega (arith, f .later)
 
 loop-again : tie.Need-loop-again Inv-loop μ-loop
 loop-again c =
+    let next = c .before .before .before .next in
+    let element-at = c .before .before .before .before .before .element-at in
+    let loop = c .before .before .before .before .before .before .loop in
     let a = c .before .before .before .before .before .before .before .before .args in
-    let l = c .before .before .before .before .before .before .loop in
-    tuple-on (a .domain) (a .text .now) (a .at) (l .row) (l .i) (l .inv) (c .before .before .before .next .given .0 .1 .0) (c .before .before .before .next .given .0 .0)
-    (subst (ToldElement (a .domain) (l .row) (a .text .now) (l .i)) (c .before .before .before .next .given .1) (c .before .before .before .before .before .element-at .ensures)) (sym (c .before .peek .ensures) ∙ c .if1 .left)
+    let l = loop in
+    tuple-on (a .domain) (a .text .now) (a .at) (l .row) (l .i) (l .inv) (next .given .0 .1 .0) (next .given .0 .0)
+    (subst (ToldElement (a .domain) (l .row) (a .text .now) (l .i)) (next .given .1) (element-at .ensures)) (sym (c .before .peek .ensures) ∙ c .if1 .left)
 
 pub tuple-at-spec : {M : Type 1} → statement M
 tuple-at-spec =

@@ -19,65 +19,90 @@ abbrev μ-loop : tie.MeasureT-loop
 
 loop-holds : tie.Need-loop-holds Inv-loop μ-loop
 loop-holds c =
-    let a = c .before .before .args in
-    (tuples-first (a .domain) (a .total) (a .arity) (a .to) (a .rows .now) (a .text .now) (a .at) (c .before .before .pre .3) (c .before .before .pre .0), refl)
+    let start = c .before .before in
+    let a = start .args in
+    (tuples-first (a .domain) (a .total) (a .arity) (a .to) (a .rows .now) (a .text .now) (a .at) (start .pre .3) (start .pre .0), refl)
 
 tuple-at-requires : tie.Need-tuple-at-requires Inv-loop μ-loop
-tuple-at-requires c κs = (omega (arith, c .loop .inv .0 .listing .within), c .before .before .before .pre .2)
+tuple-at-requires c κs =
+    let start = c .before .before .before in
+    (omega (arith, c .loop .inv .0 .listing .within), start .pre .2)
 
 same-length : tie.Need-same-length Inv-loop μ-loop
-same-length c = c .before .before .before .loop .inv .1
+same-length c =
+    let loop = c .before .before .before .loop in
+    loop .inv .1
 
 returns : tie.Need-returns Inv-loop μ-loop
 returns c =
+    let loop = c .before .before .before .loop in
     let a = c .before .before .before .before .before .before .args in
-    let l = c .before .before .before .loop in
+    let l = loop in
     tuples-refused (a .domain) (a .total) (a .arity) (a .to) (a .rows .now) (a .text .now) (a .at) (l .rows) (l .before) (l .i) (l .inv .0) (l .rows)
     (subst (ToldTuple (a .domain) (a .text .now) (l .i)) (c .enum-told .given .1) (c .before .before .tuple-at .ensures))
 
 kept-requires : tie.Need-kept-requires Inv-loop μ-loop
 kept-requires c κs =
-    let a = c .before .before .before .before .before .before .before .before .args in
-    let l = c .before .before .before .before .before .loop in (
+    let loop = c .before .before .before .before .before .loop in
+    let start = c .before .before .before .before .before .before .before .before in
+    let a = start .args in
+    let l = loop in (
       tuples-bounded (a .domain) (a .total) (a .arity) (a .to) (a .rows .now) (a .text .now) (a .at) (l .rows) (l .before) (l .i) (l .inv .0),
-      c .before .before .before .before .before .before .before .before .pre .1,
-      c .before .before .before .before .before .before .before .before .pre .3,
-      c .before .before .before .before .before .before .before .before .pre .4,
+      start .pre .1,
+      start .pre .3,
+      start .pre .4,
     )
 
 same-length-2 : tie.Need-same-length-2 Inv-loop μ-loop
-same-length-2 c = c .before .before .before .before .kept .kept .1 .1 .1 .1 .0 ∙ c .before .before .before .before .before .before .before .before .before .before .loop .inv .1
+same-length-2 c =
+    let kept = c .before .before .before .before .kept in
+    let loop = c .before .before .before .before .before .before .before .before .before .before .loop in
+    kept .kept .1 .1 .1 .1 .0 ∙ loop .inv .1
 
 returns-2 : tie.Need-returns-2 Inv-loop μ-loop
 returns-2 c =
-    let a = c .before .before .before .before .before .before .before .before .before .before .before .before .before .args in
-    let l = c .before .before .before .before .before .before .before .before .before .before .loop in
+    let kept = c .before .before .before .before .kept in
+    let next = c .before .before .before .before .before .before .before .next in
+    let tuple-at = c .before .before .before .before .before .before .before .before .before .tuple-at in
+    let loop = c .before .before .before .before .before .before .before .before .before .before .loop in
+    let start = c .before .before .before .before .before .before .before .before .before .before .before .before .before in
+    let a = start .args in
+    let l = loop in
     tuples-last (a .domain) (a .total) (a .arity) (a .to) (a .rows .now) (a .text .now) (a .at) (l .rows) (l .before) (l .i) (l .inv .0)
-    (c .before .before .before .before .before .before .before .before .before .before .before .before .before .pre .2) (c .before .before .before .before .before .before .before .next .given .0 .1 .0) (c .before .before .before .before .before .before .before .next .given .0 .0) (subst (ToldTuple (a .domain) (a .text .now) (l .i)) (c .before .before .before .before .before .before .before .next .given .1) (c .before .before .before .before .before .before .before .before .before .tuple-at .ensures))
-    (c .before .before .before .before .kept .last .1 .1 .1 .1 .0) (c .before .before .before .before .kept .result) (c .before .before .before .before .kept .ensures) (λ e. c .if1 .taken (c .before .peek .ensures ∙ e))
+    (start .pre .2) (next .given .0 .1 .0) (next .given .0 .0) (subst (ToldTuple (a .domain) (a .text .now) (l .i)) (next .given .1) (tuple-at .ensures))
+    (kept .last .1 .1 .1 .1 .0) (kept .result) (kept .ensures) (λ e. c .if1 .taken (c .before .peek .ensures ∙ e))
 
 add-i : tie.Need-add-i Inv-loop μ-loop
 add-i c =
+    let next = c .before .before .before .before .before .before .before .next in
     let a = c .before .before .before .before .before .before .before .before .before .before .before .before .before .args in
-    let h = byte-inside (a .text .now) (c .before .before .before .before .before .before .before .next .given .0 .0) 44 (omega arith) (sym (c .before .peek .ensures) ∙ c .if1 .left) in
+    let h = byte-inside (a .text .now) (next .given .0 .0) 44 (omega arith) (sym (c .before .peek .ensures) ∙ c .if1 .left) in
     omega arith
 
 loop-less : tie.Need-loop-less Inv-loop μ-loop
 loop-less c =
+    let next = c .before .before .before .before .before .before .before .next in
+    let tuple-at = c .before .before .before .before .before .before .before .before .before .tuple-at in
+    let loop = c .before .before .before .before .before .before .before .before .before .before .loop in
     let a = c .before .before .before .before .before .before .before .before .before .before .before .before .before .args in
-    let l = c .before .before .before .before .before .before .before .before .before .before .loop in
-    let h = byte-inside (a .text .now) (c .before .before .before .before .before .before .before .next .given .0 .0) 44 (omega arith) (sym (c .before .peek .ensures) ∙ c .if1 .left) in
-    let f = subst (ToldTuple (a .domain) (a .text .now) (l .i)) (c .before .before .before .before .before .before .before .next .given .1) (c .before .before .before .before .before .before .before .before .before .tuple-at .ensures) in
+    let l = loop in
+    let h = byte-inside (a .text .now) (next .given .0 .0) 44 (omega arith) (sym (c .before .peek .ensures) ∙ c .if1 .left) in
+    let f = subst (ToldTuple (a .domain) (a .text .now) (l .i)) (next .given .1) (tuple-at .ensures) in
     omega (arith, f .later)
 
 loop-again : tie.Need-loop-again Inv-loop μ-loop
 loop-again c =
-    let a = c .before .before .before .before .before .before .before .before .before .before .before .before .before .args in
-    let l = c .before .before .before .before .before .before .before .before .before .before .loop in (
+    let kept = c .before .before .before .before .kept in
+    let next = c .before .before .before .before .before .before .before .next in
+    let tuple-at = c .before .before .before .before .before .before .before .before .before .tuple-at in
+    let loop = c .before .before .before .before .before .before .before .before .before .before .loop in
+    let start = c .before .before .before .before .before .before .before .before .before .before .before .before .before in
+    let a = start .args in
+    let l = loop in (
       tuples-on (a .domain) (a .total) (a .arity) (a .to) (a .rows .now) (a .text .now) (a .at) (l .rows) (l .before) (l .i) (l .inv .0)
-          (c .before .before .before .before .before .before .before .before .before .before .before .before .before .pre .2) (c .before .before .before .before .before .before .before .next .given .0 .1 .0) (c .before .before .before .before .before .before .before .next .given .0 .0) (subst (ToldTuple (a .domain) (a .text .now) (l .i)) (c .before .before .before .before .before .before .before .next .given .1) (c .before .before .before .before .before .before .before .before .before .tuple-at .ensures))
-          (c .before .before .before .before .kept .last .1 .1 .1 .1 .0) (c .before .before .before .before .kept .result) (c .before .before .before .before .kept .ensures) (sym (c .before .peek .ensures) ∙ c .if1 .left),
-      c .before .before .before .before .kept .kept .1 .1 .1 .1 .0 ∙ l .inv .1,
+          (start .pre .2) (next .given .0 .1 .0) (next .given .0 .0) (subst (ToldTuple (a .domain) (a .text .now) (l .i)) (next .given .1) (tuple-at .ensures))
+          (kept .last .1 .1 .1 .1 .0) (kept .result) (kept .ensures) (sym (c .before .peek .ensures) ∙ c .if1 .left),
+      kept .kept .1 .1 .1 .1 .0 ∙ l .inv .1,
     )
 
 pub tuples-at-spec : {M : Type 1} → statement M

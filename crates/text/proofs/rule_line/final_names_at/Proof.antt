@@ -10,15 +10,17 @@ use Rattle.text.proofs.rule_line.final_names_at.Tie as tie
 
 returns : tie.Need-returns
 returns c =
+    let word-end = c .before .before .before .word-end in
     let a = c .before .before .before .before .before .before .args in
     names-none
-    (subst (ToldWord (bytes "-") (a .text .now) (a .at)) (c .before .next .given .1) (c .before .before .before .word-end .ensures))
+    (subst (ToldWord (bytes "-") (a .text .now) (a .at)) (c .before .next .given .1) (word-end .ensures))
 
 returns-2 : tie.Need-returns-2
 returns-2 c =
+    let word-end = c .before .before .before .word-end in
     let a = c .before .before .before .before .before .before .args in
     names-told (a .text .now) (a .at)
-    (subst (ToldWord (bytes "-") (a .text .now) (a .at)) (c .before .enum-told .given .1) (c .before .before .before .word-end .ensures)) (c .numbers-at .result) (c .numbers-at .ensures)
+    (subst (ToldWord (bytes "-") (a .text .now) (a .at)) (c .before .enum-told .given .1) (word-end .ensures)) (c .numbers-at .result) (c .numbers-at .ensures)
 
 pub final-names-at-spec : {M : Type 1} → statement M
 final-names-at-spec =

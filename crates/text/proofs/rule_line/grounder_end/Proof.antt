@@ -43,7 +43,9 @@ returns-3 c =
     grounder-long (a .text .now) (a .at) _ (marked (c .before .before .before .before)) _ (c .before .before .run-end .ensures .0) (c .if2 .taken)
 
 word-end-requires-2 : tie.Need-word-end-requires-2
-word-end-requires-2 c κs = c .before .before .before .run-end .ensures .1
+word-end-requires-2 c κs =
+    let run-end = c .before .before .before .run-end in
+    run-end .ensures .1
 
 returns-4 : tie.Need-returns-4
 returns-4 c =

@@ -74,8 +74,9 @@ passed-6 c =
 returns : tie.Need-returns
 unfolding readLine lineKinds
 returns c =
-    let a = c .before .before .before .before .args in
-    kind-this (a .text .now) (a .at) _ _ _ refl (c .before .before .before .before .pre)
+    let start = c .before .before .before .before in
+    let a = start .args in
+    kind-this (a .text .now) (a .at) _ _ _ refl (start .pre)
     (sym (c .before .begins-at .ensures) ∙ c .if1 .taken) (omega arith)
 
 returns-2 : tie.Need-returns-2

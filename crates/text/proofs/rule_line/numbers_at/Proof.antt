@@ -20,8 +20,9 @@ found : (c : tie.After-next Inv-loop μ-loop)
     → let a = c .before .before .before .before .before .args in
     RangedFound (a .least) (a .greatest) (a .text .now) (c .before .before .before .loop .i) (c .next .given .0 .0) (c .next .given .0 .1 .0)
 found c =
+    let loop = c .before .before .before .loop in
     let a = c .before .before .before .before .before .args in
-    subst (ToldRanged (a .least) (a .greatest) (a .text .now) (c .before .before .before .loop .i)) (c .next .given .1) (c .before .before .ranged-at .ensures)
+    subst (ToldRanged (a .least) (a .greatest) (a .text .now) (loop .i)) (c .next .given .1) (c .before .before .ranged-at .ensures)
 
 loop-holds : tie.Need-loop-holds Inv-loop μ-loop
 loop-holds c =
@@ -53,9 +54,10 @@ loop-again c =
 
 returns-2 : tie.Need-returns-2 Inv-loop μ-loop
 returns-2 c =
+    let loop = c .before .before .before .loop in
     let a = c .before .before .before .before .before .args in
-    numbers-refused (a .least) (a .greatest) (a .text .now) (a .at) (c .before .before .before .loop .i) (c .before .before .before .loop .many) (c .before .before .before .loop .inv)
-    (subst (ToldRanged (a .least) (a .greatest) (a .text .now) (c .before .before .before .loop .i)) (c .enum-told .given .1) (c .before .before .ranged-at .ensures))
+    numbers-refused (a .least) (a .greatest) (a .text .now) (a .at) (loop .i) (loop .many) (loop .inv)
+    (subst (ToldRanged (a .least) (a .greatest) (a .text .now) (loop .i)) (c .enum-told .given .1) (c .before .before .ranged-at .ensures))
 
 pub numbers-at-spec : {M : Type 1} → statement M
 numbers-at-spec =

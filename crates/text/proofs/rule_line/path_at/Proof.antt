@@ -23,14 +23,16 @@ numbers : (c : tie.After-first)
     → let a = c .before .before .before .before .before .before .before .before .before .args in
     NumbersFound (separated 44 (readRanged 0 4095)) (a .text .now) (c .before .before .before .before .start .given .0 .0) (c .first .given .0 .0) (c .first .given .0 .1 .0) (c .first .given .0 .1 .1 .0)
 numbers c =
+    let start = c .before .before .before .before .start in
     let a = c .before .before .before .before .before .before .before .before .before .args in
-    subst (ToldNumbers (separated 44 (readRanged 0 4095)) (a .text .now) (c .before .before .before .before .start .given .0 .0)) (c .first .given .1) (c .before .before .numbers-at .ensures)
+    subst (ToldNumbers (separated 44 (readRanged 0 4095)) (a .text .now) (start .given .0 .0)) (c .first .given .1) (c .before .before .numbers-at .ensures)
 
 returns : tie.Need-returns
 returns c =
-    let a = c .before .before .before .before .before .args in
+    let start = c .before .before .before .before .before in
+    let a = start .args in
     path-none
-    (subst (ToldWord (bytes "[") (a .text .now) (a .at)) (c .enum-told .given .1) (c .before .before .word-end .ensures)) (c .before .before .before .before .before .pre)
+    (subst (ToldWord (bytes "[") (a .text .now) (a .at)) (c .enum-told .given .1) (c .before .before .word-end .ensures)) (start .pre)
 
 numbers-at-requires : tie.Need-numbers-at-requires
 numbers-at-requires c κs = (bracket (c .before) .within, omega arith)

@@ -32,9 +32,10 @@ returns-3 c =
 
 returns-4 : tie.Need-returns-4
 returns-4 c =
-    let a = c .before .before .before .before .args in
+    let start = c .before .before .before .before in
+    let a = start .args in
     ranged-beyond (a .least) (a .greatest) (a .text .now) (a .at)
-    (subst (ToldNumber (a .text .now) (a .at)) (c .enum-told .given .1) (c .before .before .number-at .ensures)) (c .before .before .before .before .pre .1)
+    (subst (ToldNumber (a .text .now) (a .at)) (c .enum-told .given .1) (c .before .before .number-at .ensures)) (start .pre .1)
 
 returns-5 : tie.Need-returns-5
 returns-5 c =

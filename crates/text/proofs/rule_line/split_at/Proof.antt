@@ -23,15 +23,17 @@ arrow : (c : tie.After-start)
     → let a = c .before .before .before .before .before .before .before .before .before .args in
     WordFound (bytes " -> ") (a .text .now) (c .before .before .before .before .before .name .given .0 .1 .1 .1 .0) (c .start .given .0 .0)
 arrow c =
+    let name = c .before .before .before .before .before .name in
     let a = c .before .before .before .before .before .before .before .before .before .args in
-    subst (ToldWord (bytes " -> ") (a .text .now) (c .before .before .before .before .before .name .given .0 .1 .1 .1 .0)) (c .start .given .1) (c .before .before .word-end .ensures)
+    subst (ToldWord (bytes " -> ") (a .text .now) (name .given .0 .1 .1 .1 .0)) (c .start .given .1) (c .before .before .word-end .ensures)
 
 listed : (c : tie.After-names)
     → let a = c .before .before .before .before .before .before .before .before .before .before .before .before .before .args in
     NumbersFound (separated 44 (readRanged 1 65535)) (a .text .now) (c .before .before .before .before .start .given .0 .0) (c .names .given .0 .0) (c .names .given .0 .1 .0) (c .names .given .0 .1 .1 .0)
 listed c =
+    let start = c .before .before .before .before .start in
     let a = c .before .before .before .before .before .before .before .before .before .before .before .before .before .args in
-    subst (ToldNumbers (separated 44 (readRanged 1 65535)) (a .text .now) (c .before .before .before .before .start .given .0 .0)) (c .names .given .1) (c .before .before .numbers-at .ensures)
+    subst (ToldNumbers (separated 44 (readRanged 1 65535)) (a .text .now) (start .given .0 .0)) (c .names .given .1) (c .before .before .numbers-at .ensures)
 
 returns : tie.Need-returns
 returns c =

@@ -7,7 +7,9 @@ use Rattle.text.proofs.rule_line.word_end.Statement.{statement}
 use Rattle.text.proofs.rule_line.word_end.Tie as tie
 
 returns : tie.Need-returns
-returns c = word-found (c .before .before .before .before .args .text .now) (c .before .before .before .before .args .at) (c .before .before .before .before .args .word .now) (c .before .before .before .before .pre) (sym (c .before .begins-at .ensures) ∙ c .if1 .taken)
+returns c =
+    let start = c .before .before .before .before in
+    word-found (start .args .text .now) (start .args .at) (start .args .word .now) (start .pre) (sym (c .before .begins-at .ensures) ∙ c .if1 .taken)
 
 returns-2 : tie.Need-returns-2
 returns-2 c = sym (c .before .begins-at .ensures) ∙ c .if1 .left

@@ -27,25 +27,31 @@ loop-holds c =
 
 returns : tie.Need-returns Inv-loop μ-loop
 returns c =
+    let loop = c .before .before .before .before .loop in
+    let part = c .before .before .before .before .before .part in
     let a = c .before .before .before .before .before .before .before .before .args in
-    let l = c .before .before .before .before .loop .inv in
-    let z = position-here (c .before .before .before .before .before .part .result .now) (tableName (a .text .now) (a .table)) (c .before .before .before .before .loop .i) (a .table .count - c .before .before .before .before .loop .i) (omega arith) (sym (c .before .is-named .ensures) ∙ c .if2 .taken) in
-    rw (← l .0, l .2, z) (sym (add-zero (c .before .before .before .before .loop .i)))
+    let l = loop .inv in
+    let z = position-here (part .result .now) (tableName (a .text .now) (a .table)) (loop .i) (a .table .count - loop .i) (omega arith) (sym (c .before .is-named .ensures) ∙ c .if2 .taken) in
+    rw (← l .0, l .2, z) (sym (add-zero (loop .i)))
 
 loop-again : tie.Need-loop-again Inv-loop μ-loop
 loop-again c =
+    let loop = c .before .before .before .before .loop in
+    let part = c .before .before .before .before .before .part in
     let a = c .before .before .before .before .before .before .before .before .args in
-    let l = c .before .before .before .before .loop .inv in
-    let e : a .table .count - c .before .before .before .before .loop .i - 1 ≡ a .table .count - (c .before .before .before .before .loop .i + 1) = omega arith in
-    let z = position-next (c .before .before .before .before .before .part .result .now) (tableName (a .text .now) (a .table)) (c .before .before .before .before .loop .i) (a .table .count - c .before .before .before .before .loop .i) (omega arith) (sym (c .before .is-named .ensures) ∙ c .if2 .left) in
+    let l = loop .inv in
+    let e : a .table .count - loop .i - 1 ≡ a .table .count - (loop .i + 1) = omega arith in
+    let z = position-next (part .result .now) (tableName (a .text .now) (a .table)) (loop .i) (a .table .count - loop .i) (omega arith) (sym (c .before .is-named .ensures) ∙ c .if2 .left) in
     (l .0, omega arith, l .2 ∙ rw z (rw e (omega arith)))
 
 returns-2 : tie.Need-returns-2 Inv-loop μ-loop
 returns-2 c =
+    let loop = c .before .before .loop in
+    let part = c .before .before .before .part in
     let a = c .before .before .before .before .before .before .args in
-    let l = c .before .before .loop .inv in
-    let z = position-none (c .before .before .before .part .result .now) (tableName (a .text .now) (a .table)) (c .before .before .loop .i) (a .table .count - c .before .before .loop .i) (omega arith) in
-    rw (← l .0, l .2, z) (sym (add-zero (c .before .before .loop .i)))
+    let l = loop .inv in
+    let z = position-none (part .result .now) (tableName (a .text .now) (a .table)) (loop .i) (a .table .count - loop .i) (omega arith) in
+    rw (← l .0, l .2, z) (sym (add-zero (loop .i)))
 
 pub find-spec : {M : Type 1} → statement M
 find-spec =

@@ -6,7 +6,9 @@ use Rattle.text.proofs.table.is_named.Statement.{statement}
 use Rattle.text.proofs.table.is_named.Tie as tie
 
 returns : tie.Need-returns
-returns c = c .equal .ensures ∙ rw (c .before .part .ensures, c .before .before .before .entry .ensures, c .before .before .entry2 .ensures)
+returns c =
+    let entry = c .before .before .before .entry in
+    c .equal .ensures ∙ rw (c .before .part .ensures, entry .ensures, c .before .before .entry2 .ensures)
 
 pub is-named-spec : {M : Type 1} → statement M
 is-named-spec =

@@ -20,18 +20,23 @@ loop-holds c = refl
 
 returns : tie.Need-returns Inv-loop μ-loop
 returns c =
+    let loop = c .before .before .loop in
     let a = c .before .before .before .args in
-    sym (c .before .before .loop .inv ∙ among-none (a .key) (a .rows .now) (c .before .before .loop .i) (c .before .before .loop .left) (c .if1 .taken))
+    sym (loop .inv ∙ among-none (a .key) (a .rows .now) (loop .i) (loop .left) (c .if1 .taken))
 
 returns-2 : tie.Need-returns-2 Inv-loop μ-loop
 returns-2 c =
+    let loop-test = c .before .before .before .loop-test in
+    let loop = c .before .before .before .before .loop in
     let a = c .before .before .before .before .before .args in
-    sym (c .before .before .before .before .loop .inv ∙ among-here (a .key) (a .rows .now) (c .before .before .before .before .loop .i) (c .before .before .before .before .loop .left) (c .before .before .before .loop-test .taken) (c .before .before .if1 .left) (c .if2 .taken))
+    sym (loop .inv ∙ among-here (a .key) (a .rows .now) (loop .i) (loop .left) (loop-test .taken) (c .before .before .if1 .left) (c .if2 .taken))
 
 loop-again : tie.Need-loop-again Inv-loop μ-loop
 loop-again c =
+    let loop-test = c .before .before .before .loop-test in
+    let loop = c .before .before .before .before .loop in
     let a = c .before .before .before .before .before .args in
-    c .before .before .before .before .loop .inv ∙ among-next (a .key) (a .rows .now) (c .before .before .before .before .loop .i) (c .before .before .before .before .loop .left) (c .before .before .before .loop-test .taken) (c .before .before .if1 .left) (c .if2 .left)
+    loop .inv ∙ among-next (a .key) (a .rows .now) (loop .i) (loop .left) (loop-test .taken) (c .before .before .if1 .left) (c .if2 .left)
 
 returns-3 : tie.Need-returns-3 Inv-loop μ-loop
 returns-3 c =
