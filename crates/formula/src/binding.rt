@@ -6,7 +6,6 @@ ghost use mathlib.Core.Path.{_≡_};
 ghost use Prim.Native.Nat.{_≤_, _<_};
 ghost use lib.ListN.{take, drop};
 ghost use Rattle.text.specs.Bytes.{same};
-ghost use Rattle.logic.specs.Names.{none};
 ghost use Rattle.formula.specs.memory.Bindings.{scopeName, boundIn, Binds};
 
 // At most 32, since each takes a level.

@@ -2,6 +2,7 @@
 use crate::walk::past;
 use crate::word::Kind;
 use crate::word::Sign;
+use crate::word::are_elements;
 use crate::word::kind_of;
 use crate::word::peek;
 use text::table::Table;
@@ -9,7 +10,8 @@ ghost use mathlib.Core.Path.{_≡_};
 ghost use Prim.Native.Nat.{_≤_, _<_};
 ghost use mathlib.Core.Bool.{_&&_};
 ghost use lib.ListN.{length, drop};
-ghost use Rattle.formula.specs.memory.Clauses.{elementsAt, isOutputIndex, groundAtomAt, allAt, connectiveClauseAt, clauseAt};
+ghost use Rattle.formula.specs.memory.Kinds.{elementsAt};
+ghost use Rattle.formula.specs.memory.Clauses.{isOutputIndex, groundAtomAt, allAt, connectiveClauseAt, clauseAt};
 
 fn is_output(table: Table, predicate: u32) -> bool
     ensures { λ r. ⌜ r ≡ isOutputIndex table predicate ⌝ }
@@ -18,23 +20,6 @@ fn is_output(table: Table, predicate: u32) -> bool
         return false;
     }
     predicate < table.count
-}
-
-// Whether terms are elements.
-fn are_elements(work: &[u32], at: usize, count: u32) -> bool
-    requires { ⌜ (at ≤ 16385) × (count < 4) ⌝ }
-    ensures { λ r. ⌜ r ≡ elementsAt count (drop at (now (work .entry))) ⌝ }
-{
-    let mut i = at;
-    let mut pending = count;
-    while pending > 0 {
-        if peek(work, i) % 16 != 12 {
-            return false;
-        }
-        i += 1;
-        pending -= 1;
-    }
-    true
 }
 
 // Whether an atom, whose terms stand from a place on, is ground.

@@ -2,6 +2,7 @@
 use crate::guard::evaluate;
 use crate::word::Kind;
 use crate::word::Sign;
+use crate::word::are_elements;
 use crate::word::kind_of;
 use crate::word::peek;
 use text::rule_line::Rule;
@@ -9,7 +10,7 @@ use text::table::Table;
 ghost use mathlib.Core.Path.{_≡_};
 ghost use Prim.Native.Nat.{_≤_, _<_};
 ghost use lib.ListN.{length, drop};
-ghost use Rattle.formula.specs.memory.Deciding.{signFit, junctionFit, negatedFit, isNegation, negationFit, quantifierFit, elementsAt, valueFit, inputFit, predicateFit, propositionFit, ruleFit};
+ghost use Rattle.formula.specs.memory.Deciding.{signFit, junctionFit, negatedFit, isNegation, negationFit, quantifierFit, valueFit, inputFit, evaluationFit, ruleFit};
 
 // What a rule makes of a formula.
 pub enum Fit {
@@ -139,29 +140,12 @@ fn quantifier_fit(kind: Kind) -> Fit
     }
 }
 
-// Whether each of some terms is an element.
-fn elements_only(work: &[u32], at: usize, count: u32) -> bool
-    requires { ⌜ (at ≤ 16385) × (count ≤ 4) ⌝ }
-    ensures { λ r. ⌜ r ≡ elementsAt count (drop at (now (work .entry))) ⌝ }
-{
-    let mut i = at;
-    let mut pending = count;
-    while pending > 0 {
-        if peek(work, i) % 16 != 12 {
-            return false;
-        }
-        i += 1;
-        pending -= 1;
-    }
-    true
-}
-
 // The value of an atom or equality of some terms, if they are elements.
 fn value_fit(work: &[u32], at: usize, terms: u32, table: Table, rows: &[u32]) -> Fit
     requires { ⌜ (at ≤ length (now work)) × (length (now work) ≤ 16384) × (table .domain ≤ 64) × (terms ≤ 4) ⌝ }
     ensures { λ r. ⌜ r ≡ valueFit table (now (rows .entry)) terms (drop at (now (work .entry))) ⌝ }
 {
-    if !elements_only(work, at + 1, terms) {
+    if !are_elements(work, at + 1, terms) {
         return Fit::Misfit;
     }
     let values = [0u8; 64];
@@ -179,43 +163,32 @@ fn input_fit(work: &[u32], at: usize, predicate: u32, terms: u32, table: Table, 
     Fit::Misfit
 }
 
-// EPRED: an atom of one or more terms, or an equality.
-fn predicate_fit(kind: Kind, work: &[u32], at: usize, table: Table, rows: &[u32]) -> Fit
+// EPRED, where some terms are asked for: an atom of one or more, or an equality. EPROP, where none are: an atom of none.
+fn evaluation_fit(
+    some: bool,
+    kind: Kind,
+    work: &[u32],
+    at: usize,
+    table: Table,
+    rows: &[u32],
+) -> Fit
     requires { ⌜ (at ≤ length (now work)) × (length (now work) ≤ 16384) × (table .domain ≤ 64) ⌝ }
-    ensures { λ r. ⌜ r ≡ predicateFit table (now (rows .entry)) kind (drop at (now (work .entry))) ⌝ }
+    ensures { λ r. ⌜ r ≡ evaluationFit table (now (rows .entry)) some kind (drop at (now (work .entry))) ⌝ }
 {
     match kind {
         Kind::Truth(_) => Fit::Misfit,
         Kind::Atom { predicate, terms } => {
-            if terms == 0 {
-                return Fit::Misfit;
-            }
-            input_fit(work, at, predicate, terms, table, rows)
-        }
-        Kind::Equality => value_fit(work, at, 2, table, rows),
-        Kind::Connective { sign: _, parts: _ } => Fit::Misfit,
-        Kind::Quantifier {
-            every: _,
-            variable: _,
-        } => Fit::Misfit,
-        Kind::Term => Fit::Misfit,
-    }
-}
-
-// EPROP: an atom of no terms.
-fn proposition_fit(kind: Kind, work: &[u32], at: usize, table: Table, rows: &[u32]) -> Fit
-    requires { ⌜ (at ≤ length (now work)) × (length (now work) ≤ 16384) × (table .domain ≤ 64) ⌝ }
-    ensures { λ r. ⌜ r ≡ propositionFit table (now (rows .entry)) kind (drop at (now (work .entry))) ⌝ }
-{
-    match kind {
-        Kind::Truth(_) => Fit::Misfit,
-        Kind::Atom { predicate, terms } => {
-            if terms == 0 {
+            if some == (terms > 0) {
                 return input_fit(work, at, predicate, terms, table, rows);
             }
             Fit::Misfit
         }
-        Kind::Equality => Fit::Misfit,
+        Kind::Equality => {
+            if some {
+                return value_fit(work, at, 2, table, rows);
+            }
+            Fit::Misfit
+        }
         Kind::Connective { sign: _, parts: _ } => Fit::Misfit,
         Kind::Quantifier {
             every: _,
@@ -235,8 +208,8 @@ pub fn rule_fit(rule: Rule, work: &[u32], at: usize, table: Table, rows: &[u32])
         Rule::Snand => junction_fit(true, kind),
         Rule::Snor => junction_fit(false, kind),
         Rule::Stn => negation_fit(kind, kind_of(peek(work, at + 1))),
-        Rule::Epred => predicate_fit(kind, work, at, table, rows),
-        Rule::Eprop => proposition_fit(kind, work, at, table, rows),
+        Rule::Epred => evaluation_fit(true, kind, work, at, table, rows),
+        Rule::Eprop => evaluation_fit(false, kind, work, at, table, rows),
         Rule::Iq => quantifier_fit(kind),
     }
 }

@@ -27,7 +27,7 @@ pub fn both(a: bool, b: bool) -> bool
     if a { b } else { false }
 }
 
-fn larger(a: u32, b: u32) -> u32
+pub fn larger(a: u32, b: u32) -> u32
     ensures { λ r. ⌜ r ≡ max a b ⌝ }
 {
     if a < b { b } else { a }

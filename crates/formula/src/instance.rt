@@ -3,15 +3,13 @@ use crate::head::junction_word;
 use crate::store::copy;
 use crate::store::put;
 use crate::walk::past;
-use crate::word::kind_of;
-use crate::word::part_count;
+use crate::word::parts_of;
 ghost use mathlib.Core.Path.{_≡_};
 ghost use mathlib.Core.List.{[]};
 ghost use mathlib.Core.Bool.{cond};
 ghost use Prim.Native.Nat.{_+_, _≤_, _<_};
 ghost use lib.ListN.{getD, take};
 ghost use lib.Seq.{slice};
-ghost use Rattle.formula.specs.memory.Kinds.{kindOf, partCount};
 ghost use Rattle.formula.specs.memory.Storing.{Stores, Behind, Placed, Rewritten};
 ghost use Rattle.formula.specs.memory.Instances.{wordWith, heldAfter, wordsWith, copies, setCount, instantiatedWords};
 
@@ -27,12 +25,6 @@ fn word_with(x: u32, v: u32, held: usize, word: u32) -> u32
         return v * 16 + 12;
     }
     word
-}
-
-fn parts_of(word: u32) -> usize
-    ensures { λ r. ⌜ (r ≡ partCount (kindOf word)) × (r < 4294967296) ⌝ }
-{
-    part_count(kind_of(word)) as usize
 }
 
 // How many formulas are to be copied as they are after a word.

@@ -1,11 +1,11 @@
 // Whether a predicate is one of the problem's.
+use crate::fact::larger;
 use text::name::equal;
 use text::name::part;
 use text::table::Table;
 use text::table::entry;
 ghost use mathlib.Core.Path.{_≡_};
 ghost use mathlib.Core.Bool.{_&&_};
-ghost use Prim.Native.Nat.{max};
 ghost use lib.Dec.{eqb};
 ghost use lib.ListN.{getD};
 ghost use Rattle.text.specs.Bytes.{same};
@@ -19,16 +19,6 @@ fn has_name(problem: &[u8], table: Table, i: u32, name: &[u8]) -> bool
     let starts = table.start;
     let sizes = table.size;
     equal(name, part(problem, entry(starts, i), entry(sizes, i)))
-}
-
-fn predicate_count(table: Table) -> u32
-    ensures { λ r. ⌜ r ≡ max (table .inputs) (table .count) ⌝ }
-{
-    if table.inputs < table.count {
-        table.count
-    } else {
-        table.inputs
-    }
 }
 
 fn is_predicate(problem: &[u8], table: Table, i: u32, name: &[u8], arity: usize) -> bool
@@ -45,7 +35,7 @@ fn is_predicate(problem: &[u8], table: Table, i: u32, name: &[u8], arity: usize)
 pub fn is_declared(problem: &[u8], table: Table, name: &[u8], arity: usize) -> bool
     ensures { λ r. ⌜ r ≡ declared (predicates (signatureOf (now (problem .entry)) table)) (now (name .entry)) arity ⌝ }
 {
-    let count = predicate_count(table);
+    let count = larger(table.inputs, table.count);
     let mut i: u32 = 0;
     while i < count {
         if is_predicate(problem, table, i, name, arity) {

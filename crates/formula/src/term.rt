@@ -3,6 +3,7 @@ use crate::binding::Scope;
 use crate::binding::is_bound;
 use crate::fact::both;
 use crate::name_table::list_name;
+use crate::store::set_word;
 use text::byte::Class;
 use text::byte::is_capital;
 use text::byte::is_digit;
@@ -17,10 +18,9 @@ ghost use mathlib.Core.Path.{_≡_};
 ghost use mathlib.Core.List.{List};
 ghost use mathlib.Core.Bool.{Bool, _||_};
 ghost use Prim.Native.Nat.{ℕ, _+_, _≤_};
-ghost use lib.ListN.{length, set};
+ghost use lib.ListN.{length};
 ghost use Rattle.text.specs.Bytes.{bytes, same};
 ghost use Rattle.text.specs.Problem.{Name, readName, isElement};
-ghost use Rattle.logic.specs.Text.{truthText};
 ghost use Rattle.logic.specs.Reading.{readVariable, readTerm};
 ghost use Rattle.formula.specs.memory.Bindings.{boundIn};
 ghost use Rattle.formula.specs.memory.Entries.{memory};
@@ -47,15 +47,6 @@ pub enum TermsRead {
         named: bool,
     },
     Malformed,
-}
-
-// A word is stored where there is room.
-pub fn put(work: &mut [u32], at: usize, word: u32)
-    ensures { λ r. ⌜ now (work .exit) ≡ set (now (work .entry)) at word ⌝ }
-{
-    if at < work.len() {
-        work[at] = word;
-    }
 }
 
 fn is_truth(name: &[u8]) -> bool
@@ -108,7 +99,7 @@ fn read_element(text: &[u8], at: usize, domain: u32, work: &mut [u32], to: usize
 {
     match number_at(text, at) {
         Number::Value { next, value } => {
-            put(work, to, value * 16 + 12);
+            set_word(work, to, value * 16 + 12);
             TermRead::Done {
                 next,
                 named: is_element(domain, value),
@@ -134,7 +125,7 @@ fn read_variable(
         Behind::At(next) => {
             let size = next - at;
             let index = list_name(text, names, at, size);
-            put(work, to, index * 16 + 13);
+            set_word(work, to, index * 16 + 13);
             TermRead::Done {
                 next,
                 named: is_bound(text, scope, at, size),

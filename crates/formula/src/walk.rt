@@ -1,7 +1,7 @@
 // Places of formulas in memory: after whole formulas, one level down, and along a path.
 use crate::word::Kind;
 use crate::word::kind_of;
-use crate::word::part_count;
+use crate::word::parts_of;
 use crate::word::peek;
 ghost use mathlib.Core.Path.{_≡_};
 ghost use Prim.Native.Nat.{_+_, _≤_, _<_};
@@ -36,12 +36,6 @@ pub fn subformula_count(kind: Kind) -> u32
     }
 }
 
-fn wide(n: u32) -> usize
-    ensures { λ r. ⌜ (r ≡ n) × (r < 4294967296) ⌝ }
-{
-    n as usize
-}
-
 // The place after some formulas.
 pub fn past(work: &[u32], at: usize, count: usize) -> usize
     requires { ⌜ (length (now work) ≤ 16384) × (at ≤ length (now work)) × (count < 4294967296) ⌝ }
@@ -53,7 +47,7 @@ pub fn past(work: &[u32], at: usize, count: usize) -> usize
         if i >= work.len() {
             return i;
         }
-        pending = pending - 1 + wide(part_count(kind_of(work[i])));
+        pending = pending - 1 + parts_of(work[i]);
         i += 1;
     }
     i
@@ -65,7 +59,7 @@ pub fn down(work: &[u32], at: usize, part: u32) -> Place
     ensures { λ r. ⌜ (r ≡ placeBelow (now (work .entry)) at part) × Within (length (now (work .entry))) r ⌝ }
 {
     if part < subformula_count(kind_of(peek(work, at))) {
-        return Place::At(past(work, at + 1, wide(part)));
+        return Place::At(past(work, at + 1, part as usize));
     }
     Place::Nowhere
 }

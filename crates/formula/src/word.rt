@@ -1,7 +1,8 @@
 // Words of memory: a formula is one word for each unit of its size, each formula before its parts.
 ghost use mathlib.Core.Path.{_≡_};
-ghost use lib.ListN.{getD};
-ghost use Rattle.formula.specs.memory.Kinds.{kindOf, partCount};
+ghost use Prim.Native.Nat.{_≤_, _<_};
+ghost use lib.ListN.{getD, drop};
+ghost use Rattle.formula.specs.memory.Kinds.{kindOf, partCount, elementsAt};
 
 // Which connective.
 pub enum Sign {
@@ -72,7 +73,7 @@ pub fn kind_of(word: u32) -> Kind
 }
 
 // How many formulas or terms follow a word of a kind as its parts.
-pub fn part_count(kind: Kind) -> u32
+fn part_count(kind: Kind) -> u32
     ensures { λ r. ⌜ r ≡ partCount kind ⌝ }
 {
     match kind {
@@ -91,9 +92,33 @@ pub fn part_count(kind: Kind) -> u32
     }
 }
 
+// The same of a word.
+pub fn parts_of(word: u32) -> usize
+    ensures { λ r. ⌜ (r ≡ partCount (kindOf word)) × (r < 4294967296) ⌝ }
+{
+    part_count(kind_of(word)) as usize
+}
+
 // The word at a place; 0 past the end.
 pub fn peek(work: &[u32], at: usize) -> u32
     ensures { λ r. ⌜ r ≡ getD (now (work .entry)) at 0 ⌝ }
 {
     if at < work.len() { work[at] } else { 0 }
+}
+
+// Whether so many terms, one after the other, are elements.
+pub fn are_elements(work: &[u32], at: usize, count: u32) -> bool
+    requires { ⌜ (at ≤ 16385) × (count ≤ 4) ⌝ }
+    ensures { λ r. ⌜ r ≡ elementsAt count (drop at (now (work .entry))) ⌝ }
+{
+    let mut i = at;
+    let mut pending = count;
+    while pending > 0 {
+        if peek(work, i) % 16 != 12 {
+            return false;
+        }
+        i += 1;
+        pending -= 1;
+    }
+    true
 }

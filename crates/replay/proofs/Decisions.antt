@@ -14,7 +14,7 @@ use Rattle.text.specs.declared.table.Table.{Table}
 use Rattle.text.specs.declared.rule_line.Rule.{Rule}
 use Rattle.text.specs.declared.rule_line.Rule.the-variants.{Snand, Snor, Stn, Epred, Eprop, Iq}
 use Rattle.formula.specs.memory.Kinds.{kindOf}
-use Rattle.formula.specs.memory.Deciding.{junctionFit, negationFit, quantifierFit, predicateFit, propositionFit, ruleFit}
+use Rattle.formula.specs.memory.Deciding.{junctionFit, negationFit, quantifierFit, evaluationFit, ruleFit}
 use Rattle.formula.specs.declared.word.Kind.{Kind}
 use Rattle.formula.proofs.memory.Words.{kind-truth}
 use Rattle.formula.specs.memory.Rewriting.{endWithin, rewrittenWords}
@@ -30,8 +30,8 @@ fit-nothing : (table : Table) (rows : List ℕ) (rule : Rule) → ruleFit table 
 fit-nothing table rows Snand = ap (junctionFit true) (kind-truth false)
 fit-nothing table rows Snor = ap (junctionFit false) (kind-truth false)
 fit-nothing table rows Stn = ap (λ (k : Kind). negationFit k (kindOf 0)) (kind-truth false)
-fit-nothing table rows Epred = ap (λ (k : Kind). predicateFit table rows k []) (kind-truth false)
-fit-nothing table rows Eprop = ap (λ (k : Kind). propositionFit table rows k []) (kind-truth false)
+fit-nothing table rows Epred = ap (λ (k : Kind). evaluationFit table rows true k []) (kind-truth false)
+fit-nothing table rows Eprop = ap (λ (k : Kind). evaluationFit table rows false k []) (kind-truth false)
 fit-nothing table rows Iq = ap quantifierFit (kind-truth false)
 
 module _ (table : Table) (rows : List ℕ) (rule : Rule) (words : List ℕ) (at : ℕ) where

@@ -12,6 +12,7 @@ use lib.Seq.{drop-append-seam}
 use borrow.Author.Tests.{eqb-true, eqb-false, eq-eqb, ne-eqb}
 use Rattle.text.specs.Outcome.{Outcome, done, refused, mapped}
 use Rattle.text.specs.Derivation.{Position}
+use Rattle.text.proofs.Outcome.{mapped-mapped}
 use Rattle.logic.specs.Formula.{Formula}
 use Rattle.logic.specs.Rules.{Rewriting, at}
 use Rattle.formula.specs.memory.Kinds.{skip}
@@ -28,10 +29,6 @@ use Rattle.replay.specs.memory.Held.{reached, targetIn, wholeIn}
 use Rattle.replay.proofs.Theory.{names-append, length-names}
 use Rattle.replay.proofs.NameLists.{index-none, index-here, index-later}
 use Rattle.replay.proofs.HeldWords.{liveWords, heldOf, words-append, skip-live}
-
-mapped-mapped : {A B C : Type 0} (g : B → C) (f : A → B) (o : Outcome ℕ A) → mapped g (mapped f o) ≡ mapped (λ a. g (f a)) o
-mapped-mapped g f (done a) = refl
-mapped-mapped g f (refused e) = refl
 
 -- The name.
 

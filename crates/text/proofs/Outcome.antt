@@ -48,3 +48,7 @@ allowed-itself (refused e) = tt
 pub bind-bind : {E A B C : Type 0} (o : Outcome E A) (k : A → Outcome E B) (l : B → Outcome E C) → (o >>= λ a. k a >>= l) ≡ ((o >>= k) >>= l)
 bind-bind (done a) k l = refl
 bind-bind (refused e) k l = refl
+
+pub mapped-mapped : {E A B C : Type 0} (g : B → C) (f : A → B) (o : Outcome E A) → mapped g (mapped f o) ≡ mapped (λ a. g (f a)) o
+mapped-mapped g f (done a) = refl
+mapped-mapped g f (refused e) = refl

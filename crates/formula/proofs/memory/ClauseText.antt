@@ -25,7 +25,6 @@ use Rattle.formula.specs.memory.ClauseText.{elementOf, elementTexts, arg
 use Rattle.formula.specs.declared.word.Sign.{Sign}
 use Rattle.formula.specs.declared.word.Sign.the-variants.{Junction}
 use Rattle.formula.specs.declared.word.Kind.{Kind}
-use Rattle.formula.specs.declared.word.Kind.the-variants as kind
 use Rattle.logic.proofs.Normal.{Clause, positive, negative, disjunction, Clauses, noClauses, clause, isClause-clause}
 use Rattle.formula.proofs.memory.Naming.{Naming, wordsIn, allWordsIn, termWordsIn, TermsStorable, Storable, AllStorable}
 use Rattle.formula.proofs.memory.Words.{signOf, kind-truth, kind-connective, kind-atom, afterFirst-words}

@@ -1,30 +1,30 @@
 -- Ground clauses in memory: what each kind of word comes to, a turn of each loop, and that the words of a formula are judged as the formula is.
 -- Assumes nothing.
-use Prim.Native.Nat.{ℕ, zero, suc, _+_, _-_, _*_, _%_, _≤_, _<_}
+use Prim.Native.Nat.{ℕ, zero, suc, _+_, _-_, _%_, _≤_, _<_}
 use native.Mathlib.Numerals.{add-one, sub-one}
 use native.Mathlib.Omega.{arith}
-use mathlib.Core.Path.{_≡_, refl, sym, ap, ap₂, _∙_}
+use mathlib.Core.Path.{_≡_, refl, sym, ap₂, _∙_}
 use mathlib.Core.List.{List, [], _∷_, _++_, append-assoc}
 use mathlib.Core.Bool.{Bool, true, false, _&&_}
-use borrow.Author.Tests.{eq-eqb, ne-eqb, lt-leb, le-leb}
+use borrow.Author.Tests.{ne-eqb, lt-leb, le-leb}
 use lib.Dec.{ltb}
 use lib.ListN.{length, getD, drop, drop-of-length-le}
 use lib.Seq.{drop-drop, drop-cons}
 use Rattle.text.specs.Problem.{Name, Problem, isOutput}
 use Rattle.text.specs.declared.table.Table.{Table}
 use Rattle.text.proofs.Places.{next-within}
-use Rattle.logic.specs.Formula.{element, variable, Terms, noTerms, term, termCount, all, any, Connective, negation, implies, impliedBy, equivalent, junction}
+use Rattle.logic.specs.Formula.{Terms, termCount, all, any, Connective, negation, implies, impliedBy, equivalent, junction}
 use Rattle.logic.specs.Formula.{Formula, truth, atom, equal, connective, quantifier, Formulas, noParts, part, depth, depths}
-use Rattle.logic.specs.Normal.{elementsOnly, isGroundAtom, connectiveClause, isClause, allClauses}
+use Rattle.logic.specs.Normal.{isGroundAtom, connectiveClause, isClause, allClauses}
 use Rattle.formula.specs.memory.Kinds.{kindOf, skip}
 use Rattle.formula.specs.memory.Words.{partTotal, words}
-use Rattle.formula.specs.memory.Clauses.{isElementWord, elementsAt, allAt, isOutputIndex, groundAtomBy, groundAtomAt, connectiveClauseAt, clauseBy, clauseAt}
+use Rattle.formula.specs.memory.Clauses.{allAt, isOutputIndex, groundAtomBy, groundAtomAt, connectiveClauseAt, clauseBy, clauseAt}
 use Rattle.formula.specs.declared.word.Sign.{Sign}
 use Rattle.formula.specs.declared.word.Sign.the-variants.{Negation, Junction}
 use Rattle.formula.specs.declared.word.Kind.{Kind}
 use Rattle.formula.specs.declared.word.Kind.the-variants as kind
 use Rattle.formula.proofs.memory.Naming.{Naming, wordsIn, allWordsIn, termWordsIn, Storable, AllStorable}
-use Rattle.formula.proofs.memory.Words.{signOf, kind-truth, kind-equal, kind-connective, kind-quantifier, kind-atom, afterFirst-words}
+use Rattle.formula.proofs.memory.Words.{elements-words, signOf, kind-truth, kind-equal, kind-connective, kind-quantifier, kind-atom, afterFirst-words}
 
 -- An output predicate's index.
 
@@ -37,43 +37,24 @@ module _ (table : Table) (p : ℕ) where
 
 -- A turn of each loop.
 
-pub elements-none : (n : ℕ) (s : List ℕ) → n ≡ 0 → elementsAt n s ≡ true
-unfolding elementsAt
-elements-none n s e = rw e
-
 pub all-none : (test : List ℕ → Bool) (n : ℕ) (s : List ℕ) → n ≡ 0 → allAt test n s ≡ true
 unfolding allAt
 all-none test n s e = rw e
 
-module _ (work : List ℕ) (i n : ℕ) (more : 0 < n) where
-  elements-first : elementsAt n (drop i work) ≡ (isElementWord (getD work i 0) && elementsAt (n - 1) (drop (i + 1) work))
-  unfolding elementsAt
-  elements-first = pick n more
+module _ (test : List ℕ → Bool) (work : List ℕ) (i n : ℕ) (more : 0 < n) where
+  all-first : allAt test n (drop i work) ≡ (test (drop i work) && allAt test (n - 1) (drop (i + skip (drop i work) 1) work))
+  unfolding allAt
+  all-first = pick n more
     where
-      pick : (n : ℕ) → 0 < n → elementsAt n (drop i work) ≡ (isElementWord (getD work i 0) && elementsAt (n - 1) (drop (i + 1) work))
+      pick : (n : ℕ) → 0 < n → allAt test n (drop i work) ≡ (test (drop i work) && allAt test (n - 1) (drop (i + skip (drop i work) 1) work))
       pick zero h = absurd (omega arith)
-      pick (suc n) h = rw (sub-one (suc n), ← next-within work i, drop-drop 1 i work)
+      pick (suc n) h = rw (sub-one (suc n), drop-drop (skip (drop i work) 1) i work)
 
-  pub elements-more : getD work i 0 % 16 ≡ 12 → elementsAt n (drop i work) ≡ elementsAt (n - 1) (drop (i + 1) work)
-  elements-more e = elements-first ∙ ap (λ (b : Bool). b && elementsAt (n - 1) (drop (i + 1) work)) (eq-eqb (getD work i 0 % 16) 12 e)
+  pub all-more : test (drop i work) ≡ true → allAt test n (drop i work) ≡ allAt test (n - 1) (drop (i + skip (drop i work) 1) work)
+  all-more e = rw (all-first, e)
 
-  pub elements-stop : (getD work i 0 % 16 ≡ 12 → ⊥) → elementsAt n (drop i work) ≡ false
-  elements-stop e = elements-first ∙ ap (λ (b : Bool). b && elementsAt (n - 1) (drop (i + 1) work)) (ne-eqb (getD work i 0 % 16) 12 e)
-
-  module _ (test : List ℕ → Bool) where
-    all-first : allAt test n (drop i work) ≡ (test (drop i work) && allAt test (n - 1) (drop (i + skip (drop i work) 1) work))
-    unfolding allAt
-    all-first = pick n more
-      where
-        pick : (n : ℕ) → 0 < n → allAt test n (drop i work) ≡ (test (drop i work) && allAt test (n - 1) (drop (i + skip (drop i work) 1) work))
-        pick zero h = absurd (omega arith)
-        pick (suc n) h = rw (sub-one (suc n), drop-drop (skip (drop i work) 1) i work)
-
-    pub all-more : test (drop i work) ≡ true → allAt test n (drop i work) ≡ allAt test (n - 1) (drop (i + skip (drop i work) 1) work)
-    all-more e = rw (all-first, e)
-
-    pub all-stop : test (drop i work) ≡ false → allAt test n (drop i work) ≡ false
-    all-stop e = rw (all-first, e)
+  pub all-stop : test (drop i work) ≡ false → allAt test n (drop i work) ≡ false
+  all-stop e = rw (all-first, e)
 
 -- An atom at a place, which may lie past the end.
 pub ground-kind : (table : Table) (work : List ℕ) (at word : ℕ) (k j : Kind) → word ≡ getD work at 0 → j ≡ kindOf word → j ≡ k
@@ -142,21 +123,11 @@ module _ (table : Table) where
 
   -- the output predicates are those behind the inputs
   module _ (N : Naming) (P : Problem) (outputs : (p : Name) → isOutput P p ≡ isOutputIndex table (N .predicateIndex p)) where
-    elementsAt-words : (ts : Terms) (s : List ℕ) → elementsAt (termCount ts) (termWordsIn N ts ++ s) ≡ elementsOnly ts
-    unfolding elementsAt
-    elementsAt-words noTerms s = refl
-    elementsAt-words (term (element v) ts) s =
-        let tag : (v * 16 + 12) % 16 ≡ 12 = omega arith in
-        rw tag (elementsAt-words ts s)
-    elementsAt-words (term (variable x) ts) s =
-        let tag : (N .variableIndex x * 16 + 13) % 16 ≡ 13 = omega arith in
-        rw tag
-
     atom-words : (p : Name) (ts : Terms) (s : List ℕ) → Storable N (atom p ts)
         → groundAtomBy table (kind.Atom (N .predicateIndex p) (termCount ts)) (termWordsIn N ts ++ s) ≡ isGroundAtom P (atom p ts)
     atom-words p ts s h =
         let few : termCount ts % 4 ≡ termCount ts = omega (arith, h .1) in
-        rw few (ap₂ _&&_ (sym (outputs p)) (elementsAt-words ts s))
+        rw few (ap₂ _&&_ (sym (outputs p)) (elements-words N ts s))
 
     ground-words : (f : Formula) (s : List ℕ) → Storable N f
         → groundAtomAt table (wordsIn N f ++ s) ≡ isGroundAtom P f

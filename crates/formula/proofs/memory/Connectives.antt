@@ -7,7 +7,7 @@ use mathlib.Core.Path.{_≡_, refl, sym, ap, _∙_}
 use mathlib.Core.List.{List, [], _∷_}
 use mathlib.Core.Bool.{Bool, true, false, cond, _&&_, false≢true}
 use lib.Dec.{eqb}
-use lib.ListN.{length, drop, set, length-drop, length-append}
+use lib.ListN.{length, drop, set, length-drop}
 use lib.Seq.{drop-drop}
 use borrow.Author.Tests.{eqb-true, eqb-false}
 use Rattle.text.specs.Bytes.{Bytes, next}
@@ -15,7 +15,8 @@ use Rattle.text.specs.Outcome.{Outcome, done, refused}
 use Rattle.text.specs.Outcome as outcome
 use Rattle.text.specs.Reading.{Reader, word, further}
 use Rattle.text.proofs.Laws.{and-left, and-right}
-use Rattle.text.proofs.Outcome.{allowed-weaken}
+use Rattle.text.proofs.Separated.{reads-shrinks}
+use Rattle.text.proofs.FoundBytes.{byte-found}
 use Rattle.logic.specs.Formula.{Side, Connective, negation, implies, impliedBy, equivalent, junction, Formula, connective, Formulas, noParts, part, partsOf, size}
 use Rattle.logic.specs.Text.{takes}
 use Rattle.logic.specs.Names.{known}
@@ -32,13 +33,12 @@ use Rattle.formula.specs.memory.PartReads.{noneFollow, furtherParts, par
 use Rattle.formula.specs.declared.fact.Facts.{Facts}
 use Rattle.formula.specs.declared.read.Read.the-variants as read
 use Rattle.formula.proofs.memory.Facts.{facts-none, facts-connective}
-use Rattle.formula.proofs.memory.Lists.{byte-within, byte-first, byte-other, Shorter, Shrinks, upTo-separated, pair-list}
+use Rattle.formula.proofs.memory.Lists.{byte-first, byte-other, Shrinks, upTo-separated, pair-list}
 use Rattle.formula.proofs.memory.Entries.{entered-none, entered-alike, entered-header}
 
 -- A formula leaves no more than it was read from.
 pub shrinks-formula : (levels : ℕ) → Shrinks (readFormula levels)
-shrinks-formula levels s =
-    allowed-weaken _ (Shorter s) (λ p q. omega (arith, simp length-append at (ap length (q .1)))) (readFormula levels s) (reads-formula levels .sound s)
+shrinks-formula levels = reads-shrinks (reads-formula levels)
 
 -- What follows a sign, as a list.
 
@@ -148,10 +148,10 @@ module _ (text : Bytes) (at : ℕ) where
   none-within implies e = absurd (false≢true e)
   none-within impliedBy e = absurd (false≢true e)
   none-within equivalent e = absurd (false≢true e)
-  none-within (junction c) e = byte-within text at 41 (eqb-true (next (drop at text)) 41 e) (omega arith)
+  none-within (junction c) e = byte-found text at 41 (omega arith) (eqb-true (next (drop at text)) 41 e) .within
 
   bracket-within : (b : Bool) → (b && eqb (next (drop at text)) 41) ≡ true → at + 1 ≤ length text
-  bracket-within b e = byte-within text at 41 (eqb-true (next (drop at text)) 41 (and-right b _ e)) (omega arith)
+  bracket-within b e = byte-found text at 41 (omega arith) (eqb-true (next (drop at text)) 41 (and-right b _ e)) .within
 
   close-within : (o : Connective) (count : ℕ) → at ≤ length text → partsClose o count (drop at text) ≡ true → at + closeSize o ≤ length text
   close-within negation count h e = omega arith

@@ -7,8 +7,8 @@ use native.Mathlib.Omega.{arith}
 use mathlib.Core.Path.{_≡_, refl, sym, ap, ap₂, subst, _∙_}
 use mathlib.Core.List.{List, [], _∷_, _++_}
 use mathlib.Core.Bool.{Bool, true, false, cond, _&&_}
-use borrow.Author.Tests.{eq-eqb, ne-eqb, eqb-true, eqb-false}
-use lib.Dec.{eqb}
+use borrow.Author.Tests.{eq-eqb, ne-eqb, eqb-true}
+use lib.Dec.{eqb, eqb·suc-suc}
 use lib.ListN.{length, getD, drop, set, drop-of-length-le}
 use lib.Seq.{sets, drop-cons, drop-drop}
 use Rattle.text.specs.Bytes.{Bytes, same, followed}
@@ -146,13 +146,6 @@ feed-atmost : (b : Bool) → cond b 1 0 ≤ 1
 feed-atmost true = omega arith
 feed-atmost false = omega arith
 
-eqb-suc : (m n : ℕ) → eqb (suc m) (suc n) ≡ eqb m n
-eqb-suc m n = pick (eqb m n) refl
-  where
-    pick : (b : Bool) → eqb m n ≡ b → eqb (suc m) (suc n) ≡ b
-    pick true e = eq-eqb (suc m) (suc n) (ap suc (eqb-true m n e))
-    pick false e = ne-eqb (suc m) (suc n) (λ h. eqb-false m n e (omega arith))
-
 -- behind the first difference
 module _ (claim : Bytes) (store : Bool) where
   differed-emitted : (p : Print) (b : ℕ) → agreesAfter claim (p .0) b ≡ false
@@ -220,7 +213,7 @@ module _
             let feed = feed-atmost (isLF b) in
             let r = ih (emitted claim store p b) behind on bound (omega arith) in
             record {
-              alike = rw (t, eqb-suc (length w) (length s)) (r .alike);
+              alike = rw (t, eqb·suc-suc (length w) (length s)) (r .alike);
               line = rw (onward a s b w, t, eqb-true a b t) (omega (arith, r .line, line));
             }
         pick false t ih =

@@ -1,13 +1,13 @@
 -- What is decided of a formula in memory is what the rule says of the formula: by the kind of its first word, and for EPRED and EPROP by its value in the input structure.
 -- Assumes nothing.
-use Prim.Native.Nat.{ℕ, suc, _+_, _*_, _%_, _≤_}
+use Prim.Native.Nat.{ℕ, suc, _%_, _≤_}
 use native.Mathlib.Omega.{arith}
-use mathlib.Core.Path.{_≡_, refl, sym, ap, ap₂, _∙_}
+use mathlib.Core.Path.{_≡_, refl, sym, ap, _∙_}
 use mathlib.Core.List.{List, [], _++_, append-assoc}
 use mathlib.Core.Bool.{Bool, true, false, cond, not, _&&_, and-true}
-use borrow.Author.Tests.{eq-eqb, ne-eqb}
+use borrow.Author.Tests.{ne-eqb, lt-ltb}
 use lib.Dec.{eqb, ltb}
-use lib.ListN.{getD, drop, replicate, getD-replicate}
+use lib.ListN.{getD, drop, replicate}
 use Rattle.text.specs.Bytes.{Bytes}
 use Rattle.text.specs.Outcome.{Outcome, done, refused}
 use Rattle.text.specs.Problem.{Name, Problem, isInput, given}
@@ -18,24 +18,23 @@ use Rattle.text.specs.declared.rule_line.Rule.{Rule}
 use Rattle.text.specs.declared.rule_line.Rule.the-variants.{Snand, Snor, Stn, Epred, Eprop, Iq}
 use Rattle.text.proofs.Problem.{Valid}
 use Rattle.text.proofs.Tables.{isInput-in}
-use Rattle.logic.specs.Formula.{Term, element, variable, Terms, noTerms, term, termCount, Side, all, any, Connective, negation, implies, impliedBy, equivalent, junction}
+use Rattle.logic.specs.Formula.{Term, Terms, noTerms, term, termCount, Side, all, any, Connective, negation, implies, impliedBy, equivalent, junction}
 use Rattle.logic.specs.Formula.{Formula, truth, atom, equal, connective, quantifier, Formulas, noParts, part, depth}
 use Rattle.logic.specs.Names.{known, closedBut}
 use Rattle.logic.specs.Normal.{mentionsOnly, isElementTerm, elementsOnly}
 use Rattle.logic.specs.Meaning.{nowhere, valueOf, valuesOf, unit, holds}
 use Rattle.logic.specs.Rules.{onTruth, simplified, simplify, negate, looked, compared, evaluatePredicate, evaluateProposition, instantiated, instantiate, apply}
-use Rattle.formula.specs.memory.Kinds.{kindOf}
-use Rattle.formula.specs.memory.Words.{partTotal, termWord, words}
-use Rattle.formula.specs.memory.Values.{valued, trueAt}
-use Rattle.formula.specs.memory.Deciding.{pickFit, junctionFit, negatedFit, negationFit, quantifierFit, elementsAt, valueFit, inputFit, predicateFit, propositionFit, ruleFit}
+use Rattle.formula.specs.memory.Kinds.{kindOf, elementsAt}
+use Rattle.formula.specs.memory.Words.{partTotal, words}
+use Rattle.formula.specs.memory.Values.{trueAt}
+use Rattle.formula.specs.memory.Deciding.{junctionFit, negatedFit, negationFit, quantifierFit, valueFit, inputFit, evaluationFit, ruleFit}
 use Rattle.formula.specs.declared.word.Kind.{Kind}
 use Rattle.formula.specs.declared.word.Kind.the-variants as kind
 use Rattle.formula.specs.declared.decide.Fit.{Fit}
 use Rattle.formula.specs.declared.decide.Fit.the-variants as fit
-use Rattle.formula.proofs.memory.Naming.{Naming, wordsIn, termWordsIn, Storable}
-use Rattle.formula.proofs.memory.Words.{isEvery, signOf, kind-truth, kind-atom, kind-equal, kind-connective, kind-quantifier}
-use Rattle.formula.proofs.memory.Indexed.{Matches}
-use Rattle.formula.proofs.memory.Evaluated.{value-words}
+use Rattle.formula.proofs.memory.Naming.{Naming, wordsIn, Storable}
+use Rattle.formula.proofs.memory.Words.{elements-words, signOf, kind-truth, kind-atom, kind-equal, kind-connective, kind-quantifier}
+use Rattle.formula.proofs.memory.Evaluated.{matches-nowhere, value-words}
 
 -- the formula is an `&`, if every part counts, or an `|`, and its parts are simplified
 pub record JunctionFits (f : Formula) (every : Bool) (made : Outcome ℕ Formula) : Type 0 where
@@ -67,7 +66,7 @@ module _ (N : Naming) where
   firstKind (atom p ts) = kind.Atom (N .predicateIndex p) (termCount ts)
   firstKind (equal s t) = kind.Equality
   firstKind (connective o fs) = kind.Connective (signOf o) (partTotal fs)
-  firstKind (quantifier c x g f) = kind.Quantifier (isEvery c) (N .variableIndex x)
+  firstKind (quantifier c x g f) = kind.Quantifier (unit c) (N .variableIndex x)
 
   first-kind : (f : Formula) (s : List ℕ) → kindOf (getD (wordsIn N f ++ s) 0 0) ≡ firstKind f
   unfolding words
@@ -123,28 +122,12 @@ module _ (N : Naming) where
     negation-told (connective (junction c) fs) s = refl
     negation-told (quantifier c x g f) s = refl
 
-  -- Elements only.
-
-  element-told : (t : Term) → eqb (termWord (N .variableIndex) t % 16) 12 ≡ isElementTerm t
-  element-told (element v) = let e : (v * 16 + 12) % 16 ≡ 12 = omega arith in eq-eqb ((v * 16 + 12) % 16) 12 e
-  element-told (variable x) =
-      let i = N .variableIndex x in
-      let e : (i * 16 + 13) % 16 ≡ 12 → ⊥ = λ q. omega arith in ne-eqb ((i * 16 + 13) % 16) 12 e
-
-  elements-told : (ts : Terms) (s : List ℕ) → elementsAt (termCount ts) (termWordsIn N ts ++ s) ≡ elementsOnly ts
-  unfolding elementsAt
-  elements-told noTerms s = refl
-  elements-told (term t ts) s = ap₂ _&&_ (element-told t) (elements-told ts s)
-
 -- EPRED and EPROP, in the problem that a table and its rows are.
 
 module _ (N : Naming) (text : Bytes) (table : Table) (rows : List ℕ) (inside : table .inputs ≤ table .count)
     (valid : Valid (problemIn text table rows)) (index : (p : Name) → N .predicateIndex p ≡ position p (tableNames text table)) where
   abbrev P : Problem
   P = problemIn text table rows
-
-  matches-nowhere : Matches N nowhere (valued (replicate 64 0))
-  matches-nowhere x h = sym (getD-replicate 64 (N .variableIndex x) 0 0 (h .within))
 
   -- an atom or equality of n terms, whose value in the input structure is b
   value-told : (f : Formula) (n : ℕ) (s : List ℕ) (d b : Bool) → elementsAt n (drop 1 (wordsIn N f ++ s)) ≡ d
@@ -167,10 +150,10 @@ module _ (N : Naming) (text : Bytes) (table : Table) (rows : List ℕ) (inside :
 
       pick : (i : Bool) → isInput P p ≡ i
           → Told P (atom p ts) (cond (i && elementsOnly ts) (done (truth value)) (refused 13))
-          (pickFit i (valueFit table rows (termCount ts) (wordsIn N (atom p ts) ++ s)) fit.Misfit)
+          (cond i (valueFit table rows (termCount ts) (wordsIn N (atom p ts) ++ s)) fit.Misfit)
       pick true i =
-          value-told (atom p ts) (termCount ts) s (elementsOnly ts) value (elements-told N ts s)
-          (λ e. sym (value-words N text table rows inside valid index (atom p ts) 1 s (replicate 64 0) nowhere storable (omega arith) k i matches-nowhere (λ x. omega arith)))
+          value-told (atom p ts) (termCount ts) s (elementsOnly ts) value (elements-words N ts s)
+          (λ e. sym (value-words N text table rows inside valid index (atom p ts) 1 s (replicate 64 0) nowhere storable (omega arith) k i (matches-nowhere N) (λ x. omega arith)))
       pick false i = refl
 
   equal-told : (t u : Term) (s : List ℕ) → Storable N (equal t u) → known P (equal t u) ≡ true
@@ -178,23 +161,23 @@ module _ (N : Naming) (text : Bytes) (table : Table) (rows : List ℕ) (inside :
   unfolding words depth holds mentionsOnly
   equal-told t u s storable k =
       value-told (equal t u) 2 s (isElementTerm t && isElementTerm u) (eqb (valueOf nowhere t) (valueOf nowhere u))
-      (elements-told N (term t (term u noTerms)) s ∙ ap (λ (b : Bool). isElementTerm t && b) (and-true (isElementTerm u)))
-      (λ e. sym (value-words N text table rows inside valid index (equal t u) 1 s (replicate 64 0) nowhere storable (omega arith) k refl matches-nowhere (λ x. omega arith)))
+      (elements-words N (term t (term u noTerms)) s ∙ ap (λ (b : Bool). isElementTerm t && b) (and-true (isElementTerm u)))
+      (λ e. sym (value-words N text table rows inside valid index (equal t u) 1 s (replicate 64 0) nowhere storable (omega arith) k refl (matches-nowhere N) (λ x. omega arith)))
 
   predicate-told : (f : Formula) (s : List ℕ) → Storable N f → known P f ≡ true
-      → Told P f (evaluatePredicate P f) (predicateFit table rows (firstKind N f) (wordsIn N f ++ s))
+      → Told P f (evaluatePredicate P f) (evaluationFit table rows true (firstKind N f) (wordsIn N f ++ s))
   predicate-told (truth b) s h k = refl
   predicate-told (atom p noTerms) s h k = refl
-  predicate-told (atom p (term t ts)) s h k = rw (ne-eqb (suc (termCount ts)) 0 (λ e. omega arith)) (atom-told p (term t ts) s h k)
+  predicate-told (atom p (term t ts)) s h k = rw (lt-ltb 0 (suc (termCount ts)) (omega arith)) (atom-told p (term t ts) s h k)
   predicate-told (equal t u) s h k = equal-told t u s h k
   predicate-told (connective o fs) s h k = refl
   predicate-told (quantifier c x g f) s h k = refl
 
   proposition-told : (f : Formula) (s : List ℕ) → Storable N f → known P f ≡ true
-      → Told P f (evaluateProposition P f) (propositionFit table rows (firstKind N f) (wordsIn N f ++ s))
+      → Told P f (evaluateProposition P f) (evaluationFit table rows false (firstKind N f) (wordsIn N f ++ s))
   proposition-told (truth b) s h k = refl
   proposition-told (atom p noTerms) s h k = atom-told p noTerms s h k
-  proposition-told (atom p (term t ts)) s h k = rw (ne-eqb (suc (termCount ts)) 0 (λ e. omega arith))
+  proposition-told (atom p (term t ts)) s h k = rw (lt-ltb 0 (suc (termCount ts)) (omega arith))
   proposition-told (equal t u) s h k = refl
   proposition-told (connective o fs) s h k = refl
   proposition-told (quantifier c x g f) s h k = refl

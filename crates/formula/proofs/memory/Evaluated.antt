@@ -16,7 +16,7 @@ use Rattle.text.specs.declared.table.Table.{Table}
 use Rattle.text.proofs.Laws.{and-left, and-right}
 use Rattle.text.proofs.Problem.{Valid}
 use Rattle.text.proofs.Packing.{Digits}
-use Rattle.text.proofs.Tables.{isInput-in, given-in, declared-in}
+use Rattle.text.proofs.Tables.{domain-in, isInput-in, given-in, declared-in}
 use Rattle.logic.specs.Formula.{Term, element, variable, Terms, noTerms, term, termCount}
 use Rattle.logic.specs.Formula.{Formula, truth, atom, equal, connective, quantifier, Formulas, noParts, part, depth}
 use Rattle.logic.specs.Names.{known, allKnown}
@@ -104,14 +104,13 @@ module _ (N : Naming) where
           (truths-indexed fs ρ σ (h .1) (and-right (known P f) _ k) (and-right (inputsOnly P f) _ i) a low)
 
 -- the problem that a table and its rows are, by a naming whose predicates are the table's
+pub matches-nowhere : (N : Naming) → Matches N nowhere (valued (replicate 64 0))
+matches-nowhere N x h = sym (getD-replicate 64 (N .variableIndex x) 0 0 (h .within))
+
 module _ (N : Naming) (text : Bytes) (table : Table) (rows : List ℕ) (inside : table .inputs ≤ table .count)
     (valid : Valid (problemIn text table rows)) (index : (p : Name) → N .predicateIndex p ≡ position p (tableNames text table)) where
   abbrev P : Problem
   P = problemIn text table rows
-
-  domain-in : P .domain ≡ table .domain
-  unfolding problemIn
-  domain-in = refl
 
   relation-in : (p : Name) (row : Row) → isInput P p ≡ true → declared (predicates P) p (length row) ≡ true → Digits row
       → given P p row ≡ tableStructure table rows .relation (indexedPredicate N p) row
@@ -127,10 +126,7 @@ module _ (N : Naming) (text : Bytes) (table : Table) (rows : List ℕ) (inside :
   unfolding trueAt
   value-words f levels s values ρ h l k i a low =
       ap (holds (tableStructure table rows) (valued values)) (stored-words N f levels s h l)
-      ∙ sym (holds-indexed N P (tableStructure table rows) domain-in (omega (arith, valid .greatest)) relation-in f ρ (valued values) h k i a low)
-
-  matches-nowhere : Matches N nowhere (valued (replicate 64 0))
-  matches-nowhere x h = sym (getD-replicate 64 (N .variableIndex x) 0 0 (h .within))
+      ∙ sym (holds-indexed N P (tableStructure table rows) (domain-in text table rows inside) (omega (arith, valid .greatest)) relation-in f ρ (valued values) h k i a low)
 
   -- IQ: the guard in memory, with one variable bound, admits the elements that it admits
   pub admits-words : (x : Name) (g : Formula) (levels : ℕ) (s : List ℕ) (v : ℕ) → VariableListed N x → Storable N g → depth g ≤ levels → known P g ≡ true → inputsOnly P g ≡ true
@@ -141,5 +137,5 @@ module _ (N : Naming) (text : Bytes) (table : Table) (rows : List ℕ) (inside :
       rw low
       (value-words g levels s (set (replicate 64 0) (N .variableIndex x) v) (bind nowhere x v) h l k i
       (subst (Matches N (bind nowhere x v)) (valued-set (replicate 64 0) (N .variableIndex x) v long)
-      (matches-bind N nowhere (valued (replicate 64 0)) x v listed matches-nowhere))
+      (matches-bind N nowhere (valued (replicate 64 0)) x v listed (matches-nowhere N)))
       (low-bind nowhere x v small (λ y. omega arith)))

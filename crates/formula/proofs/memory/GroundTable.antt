@@ -1,4 +1,4 @@
--- Ground clauses in memory by a table of predicates: they are judged, and printed, as those of the table's problem.
+-- Ground clauses in memory by a table of predicates: they are judged as those of the table's problem, and their predicates have the names that the table says.
 -- Assumes nothing.
 use Prim.Native.Nat.{ℕ, zero, suc, _+_, _≤_, _<_}
 use native.Mathlib.Nat.{zero-add, add-zero}
@@ -17,14 +17,11 @@ use Rattle.text.proofs.Laws.{and-right}
 use Rattle.text.proofs.Problem.{Valid}
 use Rattle.text.proofs.Tables.{length-indexed, isOutput-in}
 use Rattle.logic.specs.Formula.{Formula, depth}
-use Rattle.logic.specs.Text.{textOf}
 use Rattle.logic.specs.Normal.{isClause}
 use Rattle.formula.specs.memory.Clauses.{isOutputIndex, clauseAt}
-use Rattle.formula.specs.memory.ClauseText.{clauseText}
 use Rattle.formula.proofs.memory.Naming.{Naming, wordsIn, Storable}
 use Rattle.formula.proofs.memory.Listing.{position-listed}
 use Rattle.formula.proofs.memory.Clauses.{clauseAt-words}
-use Rattle.formula.proofs.memory.ClauseText.{clauseText-words}
 
 getD-indexed : {A : Type 0} (f : ℕ → A) (d : A) (n i k : ℕ) → k < n → getD (indexed f i n) k d ≡ f (i + k)
 unfolding indexed
@@ -58,7 +55,3 @@ module _
     pub clauseAt-table : (f : Formula) (levels : ℕ) (s : List ℕ) → Storable N f → depth f ≤ levels
         → clauseAt table levels (wordsIn N f ++ s) ≡ isClause (problemIn text table rows) f
     clauseAt-table = clauseAt-words table N (problemIn text table rows) table-outputs
-
-    pub clauseText-table : (f : Formula) (levels : ℕ) (s : List ℕ) → isClause (problemIn text table rows) f ≡ true → Storable N f → depth f ≤ levels
-        → clauseText text table levels (wordsIn N f ++ s) ≡ textOf f
-    clauseText-table = clauseText-words text table N (problemIn text table rows) table-named

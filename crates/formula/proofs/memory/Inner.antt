@@ -8,12 +8,13 @@ use mathlib.Core.List.{List, [], _∷_, _++_, append-assoc, append-nil}
 use mathlib.Core.Bool.{Bool, true, false}
 use borrow.Author.Tests.{ltb-true, ltb-false}
 use lib.Dec.{ltb}
-use lib.ListN.{length, getD, take, drop, length-append}
-use lib.Seq.{drop-drop, take-append-seam, drop-append-seam}
+use lib.ListN.{length, getD, drop, length-append}
+use lib.Seq.{drop-drop, drop-append-seam}
 use Rattle.text.specs.Outcome.{Outcome, done, refused, mapped}
 use Rattle.text.specs.Problem.{Name, Problem}
+use Rattle.text.proofs.Outcome.{mapped-mapped}
 use Rattle.text.proofs.Places.{next-within}
-use Rattle.logic.specs.Formula.{Side, Connective, Formula, truth, atom, equal, connective, quantifier, Formulas, noParts, part, depth, depths, size, termCount}
+use Rattle.logic.specs.Formula.{Side, Connective, Formula, truth, atom, equal, connective, quantifier, Formulas, noParts, part, depth, depths, termCount}
 use Rattle.logic.specs.Rules.{Rewriting, intoParts, into, at}
 use Rattle.logic.proofs.WellFormed.{WellFormed, AllWellFormed, ofConnective, ofQuantifier, ofPart}
 use Rattle.formula.specs.memory.Kinds.{kindOf, skip}
@@ -63,10 +64,6 @@ record InnerPart (N : Naming) (fs : Formulas) (i : ℕ) : Type 0 where
   pub inner-storable : AllStorable N fs → Storable N inner
   pub put-storable : (h : Formula) → AllStorable N fs → Storable N h → AllStorable N (put h)
   pub inner-well : (P : Problem) → AllWell P fs → Well P inner
-
-mapped-mapped : {A B C : Type 0} (g : B → C) (f : A → B) (o : Outcome ℕ A) → mapped g (mapped f o) ≡ mapped (λ a. g (f a)) o
-mapped-mapped g f (done a) = refl
-mapped-mapped g f (refused e) = refl
 
 mapped-same : {A : Type 0} (o : Outcome ℕ A) → o ≡ mapped (λ a. a) o
 mapped-same (done a) = refl
@@ -271,16 +268,8 @@ module _ (N : Naming) (work : List ℕ) where
     three-parts : drop start work ≡ r .before ++ (wordsIn N (r .inner) ++ (r .after ++ s))
     three-parts = stands ∙ ap (λ (g : Formula). wordsIn N g ++ s) (sym (r .put-inner)) ∙ rw (r .words-put (r .inner)) (simp append-assoc)
 
-    pub inner-before : take (length (r .before)) (drop start work) ≡ r .before
-    inner-before = rw three-parts (take-append-seam (r .before) _)
-
     pub inner-stands : drop (start + length (r .before)) work ≡ wordsIn N (r .inner) ++ (r .after ++ s)
     inner-stands = sym (drop-drop (length (r .before)) start work) ∙ rw three-parts (drop-append-seam (r .before) _)
-
-    pub inner-after : drop (start + length (r .before) + size (r .inner)) work ≡ r .after ++ s
-    inner-after =
-        sym (drop-drop (size (r .inner)) (start + length (r .before)) work)
-        ∙ rw (inner-stands, ← length-words N (r .inner)) (drop-append-seam (wordsIn N (r .inner)) (r .after ++ s))
 
   pub walk-reached : (path : List ℕ) (f : Formula) (start : ℕ) (s : List ℕ) → drop start work ≡ wordsIn N f ++ s
       → Reached N f (λ k. at path k f) start (placeOf work path start)

@@ -1,14 +1,18 @@
--- Laws of `skip`: a turn of the loop that counts the parts still to come, and that it stays within the words.
+-- Laws of `skip`: a turn of the loop that counts the parts still to come, and that it stays within the words; and a turn of the loop over terms.
 -- Assumes nothing.
-use Prim.Native.Nat.{ℕ, zero, suc, _+_, _-_, _≤_, _<_}
+use Prim.Native.Nat.{ℕ, zero, suc, _+_, _-_, _%_, _≤_, _<_}
 use native.Mathlib.Nat.{zero-add, suc-add}
 use native.Mathlib.Numerals.{add-one, sub-one}
 use native.Mathlib.Omega.{arith}
-use mathlib.Core.Path.{_≡_, refl}
+use mathlib.Core.Path.{_≡_, refl, _∙_}
 use mathlib.Core.List.{List, [], _∷_}
+use mathlib.Core.Bool.{true, false, _&&_}
+use borrow.Author.Tests.{eq-eqb, ne-eqb}
+use lib.Dec.{eqb}
 use lib.ListN.{length, drop, getD, drop-of-length-le, length-drop}
-use lib.Seq.{drop-cons}
-use Rattle.formula.specs.memory.Kinds.{kindOf, partCount, skip}
+use lib.Seq.{drop-drop, drop-cons}
+use Rattle.text.proofs.Places.{next-within}
+use Rattle.formula.specs.memory.Kinds.{kindOf, partCount, skip, elementsAt}
 
 pub skip-none : (s : List ℕ) → skip s 0 ≡ 0
 unfolding skip
@@ -43,3 +47,24 @@ skip-add (w ∷ s) (suc m) n =
     let k = partCount (kindOf w) in
     let e : m + n + k ≡ m + k + n = omega arith in
     rw (suc-add, e, skip-add s (m + k) n) (omega arith)
+
+-- Terms one by one.
+
+module _ (work : List ℕ) (i n : ℕ) (more : 0 < n) where
+  elements-first : elementsAt n (drop i work) ≡ (eqb (getD work i 0 % 16) 12 && elementsAt (n - 1) (drop (i + 1) work))
+  unfolding elementsAt
+  elements-first = pick n more
+    where
+      pick : (n : ℕ) → 0 < n → elementsAt n (drop i work) ≡ (eqb (getD work i 0 % 16) 12 && elementsAt (n - 1) (drop (i + 1) work))
+      pick zero h = absurd (omega arith)
+      pick (suc n) h = rw (sub-one (suc n), next-within work i, drop-drop 1 i work)
+
+  pub elements-more : getD work i 0 % 16 ≡ 12 → elementsAt n (drop i work) ≡ elementsAt (n - 1) (drop (i + 1) work)
+  elements-more e = elements-first ∙ rw (eq-eqb (getD work i 0 % 16) 12 e)
+
+  pub elements-stop : (getD work i 0 % 16 ≡ 12 → ⊥) → elementsAt n (drop i work) ≡ false
+  elements-stop e = elements-first ∙ rw (ne-eqb (getD work i 0 % 16) 12 e)
+
+pub elements-none : (n : ℕ) (s : List ℕ) → n ≡ 0 → elementsAt n s ≡ true
+unfolding elementsAt
+elements-none n s e = rw e

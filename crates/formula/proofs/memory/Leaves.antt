@@ -15,6 +15,7 @@ use Rattle.text.specs.Outcome as outcome
 use Rattle.text.specs.Reading.{Reader, give, word, oneOf, _⇒_, separated}
 use Rattle.text.specs.Problem.{Name, Problem, predicates, declared, isInput, readName}
 use Rattle.text.proofs.Laws.{and-right}
+use Rattle.text.proofs.Found.{word-found}
 use Rattle.logic.specs.Formula.{Term, Terms, noTerms, termsOf, termCount, Formula, truth, atom, equal, size}
 use Rattle.logic.specs.Text.{truthText}
 use Rattle.logic.specs.Reading.{readTerm, readEquality, readArguments, readAtom}
@@ -25,12 +26,12 @@ use Rattle.formula.specs.memory.NameTable.{extendedBy}
 use Rattle.formula.specs.memory.Facts.{simpleFacts}
 use Rattle.formula.specs.memory.Lists.{upTo}
 use Rattle.formula.specs.memory.Entries.{Setting, setting, Memory, memory}
-use Rattle.formula.specs.memory.TermReads.{WordFound, TermsTaken, TermsFound, closedUpTo, readTermList}
+use Rattle.formula.specs.memory.TermReads.{NameTaken, TermsTaken, TermsFound, closedUpTo, readTermList}
 use Rattle.formula.specs.memory.FormulaReads.{Found, Told, readLeaf}
 use Rattle.formula.specs.declared.read.Read.{Read}
 use Rattle.formula.specs.declared.read.Read.the-variants as read
 use Rattle.formula.proofs.memory.Facts.{facts-truth, facts-atom, facts-equal}
-use Rattle.formula.proofs.memory.Lists.{begins-first, begins-other, byte-first, begins-within, pair-list}
+use Rattle.formula.proofs.memory.Lists.{begins-first, begins-other, byte-first, pair-list}
 use Rattle.formula.proofs.memory.Entries.{entered-alike, entered-header}
 
 -- what one reader reads at a place is what another reads further on
@@ -62,7 +63,7 @@ module _ (s : Setting) (at : ℕ) (h : at ≤ length (s .text)) (names work : Li
         measured = refl;
         judged = sym (facts-truth (s .problem) (s .bound) b);
         after = long b;
-        within = begins-within (truthText b) (s .text) at h e;
+        within = word-found (s .text) at (truthText b) h e .within;
         entered = record { names = refl; work = λ k. refl };
       }
     where
@@ -219,7 +220,7 @@ module _ (s : Setting) (at : ℕ) (old : Memory) (to : ℕ) where
   pub atom-nameless : readName 5 (drop at (s .text)) ≡ refused 5 → readAtom (drop at (s .text)) ≡ refused 5
   atom-nameless e = atom-list (drop at (s .text)) ∙ rw e
 
-  module _ (end : ℕ) (w : WordFound (readName 5) (s .text) at end) where
+  module _ (end : ℕ) (w : NameTaken (readName 5) (s .text) at end) where
     pub atom-refused : readTermList (drop end (s .text)) ≡ refused 5 → readAtom (drop at (s .text)) ≡ refused 5
     atom-refused e = atom-list (drop at (s .text)) ∙ rw (w .is, e)
 

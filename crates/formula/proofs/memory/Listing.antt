@@ -4,11 +4,11 @@
 use Prim.Native.Nat.{ℕ, suc, _≤_, _<_}
 use native.Mathlib.Omega.{arith}
 use mathlib.Core.Path.{_≡_, refl, sym, ap, _∙_}
-use mathlib.Core.List.{List, [], _∷_, _++_, map}
+use mathlib.Core.List.{List, [], _∷_, map}
 use mathlib.Core.Bool.{Bool, true, false, cond, _&&_, _||_, false≢true}
-use borrow.Author.Tests.{eqb-true, leb-true}
+use borrow.Author.Tests.{eqb-true, leb-true, ltb-true}
 use lib.Dec.{eqb, leb}
-use lib.ListN.{length, getD}
+use lib.ListN.{length, getD, length-map}
 use Rattle.text.specs.Bytes.{Bytes, same, member}
 use Rattle.text.specs.Problem.{Name, Predicate, Problem, predicates, declared}
 use Rattle.text.specs.memory.Table.{position, tableNames, tablePredicate, problemIn}
@@ -20,28 +20,14 @@ use Rattle.logic.specs.Formula.{Term, element, variable, Terms, noTerms, term, 
 use Rattle.logic.specs.Formula.{Formula, truth, atom, equal, connective, quantifier, Formulas, noParts, part}
 use Rattle.logic.specs.Names.{termKnown, termsKnown, known, allKnown}
 use Rattle.logic.specs.Limits.{termVariables, termsVariables, variables, allVariables}
+use Rattle.formula.proofs.memory.NameTable.{position-within, member-position}
+use Rattle.formula.proofs.memory.Entries.{each-left, each-right}
 use Rattle.formula.proofs.memory.Naming.{Naming, Listed, TermStorable, TermsStorable, Storable, AllStorable}
 
 -- a name's place
 module _ (x : Name) where
-  pub position-atmost : (names : List Name) → position x names ≤ length names
-  unfolding position
-  position-atmost [] = omega arith
-  position-atmost (y ∷ names) = pick (same x y) (position-atmost names)
-    where
-      pick : (b : Bool) → position x names ≤ length names → cond b 0 (suc (position x names)) ≤ suc (length names)
-      pick true h = omega arith
-      pick false h = omega arith
-
   pub position-member : (names : List Name) → member x names ≡ true → position x names < length names
-  unfolding position
-  position-member [] e = absurd (false≢true e)
-  position-member (y ∷ names) e = pick (same x y) e (position-member names)
-    where
-      pick : (b : Bool) → (b || member x names) ≡ true → (member x names ≡ true → position x names < length names)
-          → cond b 0 (suc (position x names)) < suc (length names)
-      pick true e h = omega arith
-      pick false e h = let l = h e in omega arith
+  position-member names e = ltb-true (position x names) (length names) (sym (member-position x names) ∙ e)
 
   position-named : (names : List Name) → position x names < length names → getD names (position x names) [] ≡ x
   unfolding position
@@ -65,17 +51,13 @@ naming variableNames predicateNames few =
       predicateIndex = λ p. position p predicateNames;
       variableName = λ i. getD variableNames i [];
       predicateName = λ i. getD predicateNames i [];
-      small = λ p. let h = position-atmost p predicateNames in omega arith;
+      small = λ p. let h = position-within p predicateNames in omega arith;
     }
 
 -- A problem's predicates.
 
 abbrev pub namesOf : List Predicate → List Name
 namesOf qs = map (λ q. q .name) qs
-
-length-names : (qs : List Predicate) → length (namesOf qs) ≡ length qs
-length-names [] = refl
-length-names (q ∷ qs) = ap suc (length-names qs)
 
 declared-position : (qs : List Predicate) (p : Name) (arity : ℕ) → declared qs p arity ≡ true → position p (namesOf qs) < length (namesOf qs)
 unfolding position
@@ -101,20 +83,11 @@ pub tableNames-in : (text : Bytes) (table : Table) (rows : List ℕ) → table .
 tableNames-in text table rows inside =
     sym (ap namesOf (predicates-in text table rows inside) ∙ map-indexed (tablePredicate text table) (λ q. q .name) (table .count) 0)
 
--- Each of two lists together.
-each-left : {A : Type 0} (Q : A → Type 0) (xs ys : List A) → Each Q (xs ++ ys) → Each Q xs
-each-left Q [] ys h = tt
-each-left Q (x ∷ xs) ys h = (h .0, each-left Q xs ys (h .1))
-
-each-right : {A : Type 0} (Q : A → Type 0) (xs ys : List A) → Each Q (xs ++ ys) → Each Q ys
-each-right Q [] ys h = h
-each-right Q (x ∷ xs) ys h = each-right Q xs ys (h .1)
-
 -- What memory can hold.
 module _ (P : Problem) (valid : Valid P) (variableNames predicateNames : List Name) (few : length variableNames ≤ 64)
     (are : predicateNames ≡ namesOf (predicates P)) where
   pub predicates-few : length predicateNames < 256
-  predicates-few = rw (are, length-names (predicates P)) (omega (arith, valid .declares .count))
+  predicates-few = rw (are, length-map (predicates P) (λ q. q .name)) (omega (arith, valid .declares .count))
 
   abbrev pub problemNaming : Naming
   problemNaming = naming variableNames predicateNames predicates-few
@@ -135,7 +108,7 @@ module _ (P : Problem) (valid : Valid P) (variableNames predicateNames : List Na
 
   predicate-listed : (p : Name) (arity : ℕ) → declared (predicates P) p arity ≡ true → Listed (λ q. position q predicateNames) (λ i. getD predicateNames i []) 32 p
   predicate-listed p arity e =
-      position-listed p predicateNames 32 (rw are (declared-position (predicates P) p arity e)) (rw (are, length-names (predicates P)) (valid .declares .count))
+      position-listed p predicateNames 32 (rw are (declared-position (predicates P) p arity e)) (rw (are, length-map (predicates P) (λ q. q .name)) (valid .declares .count))
 
   mutual
     unfolding known variables

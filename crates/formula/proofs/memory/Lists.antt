@@ -6,38 +6,27 @@ use native.Mathlib.Numerals.{sub-one}
 use native.Mathlib.Omega.{arith}
 use mathlib.Core.Path.{_≡_, refl, sym, ap, _∙_}
 use mathlib.Core.List.{List, [], _∷_, _++_, append-nil, append-assoc}
-use mathlib.Core.Bool.{Bool, true, false, cond, false≢true}
+use mathlib.Core.Bool.{Bool, true, false, cond}
 use lib.Dec.{eqb}
-use native.Mathlib.Decide.{decLt}
-use lib.ListN.{length, drop, length-drop}
+use lib.ListN.{length, drop}
 use lib.Seq.{drop-drop}
 use borrow.Author.Tests.{eq-eqb, ne-eqb, eqb-true, eqb-false}
 use Rattle.text.specs.Bytes.{Bytes, next, begins}
-use Rattle.text.specs.Outcome.{Outcome, done, refused, mapped}
+use Rattle.text.specs.Outcome.{Outcome, done, refused}
 use Rattle.text.specs.Outcome as outcome
 use Rattle.text.specs.Reading.{Reader, give, word, further, separated}
-use Rattle.text.proofs.Laws.{and-right}
 use Rattle.text.proofs.Outcome.{Allowed}
-use Rattle.text.proofs.Places.{next-beyond}
+use Rattle.text.proofs.FoundBytes.{byte-found, byte-missing}
+use Rattle.text.proofs.Separated.{prepended}
 use Rattle.formula.specs.memory.Lists.{upTo}
-
--- a byte that is not 0 stands before the end
-pub byte-within : (text : Bytes) (at b : ℕ) → next (drop at text) ≡ b → 0 < b → at + 1 ≤ length text
-byte-within text at b e h = pick (decLt at (length text))
-  where
-    pick : Dec (at < length text) → at + 1 ≤ length text
-    pick (yes k) = omega arith
-    pick (no k) = absurd (omega (arith, e, next-beyond text at (omega arith)))
 
 -- one byte
 module _ (b : ℕ) (nonzero : 0 < b) where
   pub begins-first : (s : Bytes) → next s ≡ b → begins (b ∷ []) s ≡ true
-  begins-first [] e = absurd (omega arith)
-  begins-first (c ∷ s) e = rw (eq-eqb b c (sym e))
+  begins-first s e = byte-found s 0 b nonzero e .stands
 
   pub begins-other : (s : Bytes) → (next s ≡ b → ⊥) → begins (b ∷ []) s ≡ false
-  begins-other [] h = refl
-  begins-other (c ∷ s) h = rw (ne-eqb b c (λ e. h (sym e)))
+  begins-other s h = byte-missing s 0 b h
 
   pub byte-first : (number : ℕ) (s : Bytes) → next s ≡ b → word number (b ∷ []) s ≡ done (tt, drop 1 s)
   unfolding word
@@ -47,15 +36,6 @@ module _ (b : ℕ) (nonzero : 0 < b) where
   unfolding word
   byte-other number s h = rw (begins-other s h)
 
--- a word
-begins-length : (w s : Bytes) → begins w s ≡ true → length w ≤ length s
-begins-length [] s e = omega arith
-begins-length (a ∷ w) [] e = absurd (false≢true e)
-begins-length (a ∷ w) (b ∷ s) e = omega (arith, begins-length w s (and-right (eqb a b) (begins w s) e))
-
-pub begins-within : (w text : Bytes) (at : ℕ) → at ≤ length text → begins w (drop at text) ≡ true → at + length w ≤ length text
-begins-within w text at h e = omega (arith, begins-length w (drop at text) e, length-drop at text)
-
 -- at a place
 module _ (text : Bytes) (at b : ℕ) (nonzero : 0 < b) where
   pub byte-read : (number : ℕ) → next (drop at text) ≡ b → word number (b ∷ []) (drop at text) ≡ done (tt, drop (at + 1) text)
@@ -63,14 +43,6 @@ module _ (text : Bytes) (at b : ℕ) (nonzero : 0 < b) where
 
   pub byte-refused : (number : ℕ) → (next (drop at text) ≡ b → ⊥) → word number (b ∷ []) (drop at text) ≡ refused number
   byte-refused number h = byte-other b nonzero number (drop at text) h
-
--- items read before those of an outcome
-abbrev pub prepended : {A : Type 0} → List A → Outcome ℕ (List A × Bytes) → Outcome ℕ (List A × Bytes)
-prepended items o = mapped (λ p. (items ++ p .0, p .1)) o
-
-pub prepended-none : {A : Type 0} (o : Outcome ℕ (List A × Bytes)) → o ≡ prepended [] o
-prepended-none (done p) = refl
-prepended-none (refused number) = refl
 
 module _ {A : Type 0} (item : Reader A) (text : Bytes) (i more : ℕ) (items : List A) where
   pub list-refused : (number : ℕ) → item (drop i text) ≡ refused number → prepended items (upTo more item (drop i text)) ≡ refused number

@@ -2,7 +2,6 @@
 -- memory holds with a name more.
 -- Assumes nothing.
 use Prim.Native.Nat.{ℕ, zero, suc, _+_, _*_, _-_, _≤_, _<_, min}
-use native.Mathlib.Nat.{add-zero}
 use native.Mathlib.Numerals.{add-one, sub-one}
 use native.Mathlib.Omega.{arith}
 use mathlib.Core.Path.{_≡_, refl, sym, ap, ap₂, _∙_}
@@ -16,6 +15,7 @@ use Rattle.text.specs.Sizes.{nameSize, variableCount}
 use Rattle.text.specs.Bytes.{Bytes, same, member}
 use Rattle.text.specs.Problem.{Name}
 use Rattle.text.specs.memory.Table.{position, indexed}
+use Rattle.text.proofs.Tables.{length-indexed, indexed-append, indexed-agree}
 use Rattle.text.proofs.Laws.{or-left, or-right, same-refl, Each}
 use Rattle.logic.specs.Limits.{namesShort}
 use Rattle.formula.specs.memory.NameTable.{settled, extended, extendedBy, indexIn, nameIn, namesIn, withName, Listed, listFits}
@@ -124,24 +124,6 @@ extendedBy-settles (x ∷ xs) names =
 
 -- The table in memory.
 
-module _ {A : Type 0} (f : ℕ → A) where
-  pub length-indexed : (n i : ℕ) → length (indexed f i n) ≡ n
-  unfolding indexed
-  length-indexed zero i = refl
-  length-indexed (suc n) i = ap suc (length-indexed n (suc i))
-
-  indexed-last : (n i : ℕ) → indexed f i (suc n) ≡ indexed f i n ++ (f (i + n) ∷ [])
-  unfolding indexed
-  indexed-last zero i = rw (add-zero i)
-  indexed-last (suc n) i =
-      let e : suc i + n ≡ i + suc n = omega arith in
-      ap (λ l. f i ∷ l) (indexed-last n (suc i) ∙ rw e)
-
-  indexed-agree : (g : ℕ → A) (n i : ℕ) → ((k : ℕ) → k < i + n → f k ≡ g k) → indexed f i n ≡ indexed g i n
-  unfolding indexed
-  indexed-agree g zero i h = refl
-  indexed-agree g (suc n) i h = ap₂ (λ a l. a ∷ l) (h i (omega arith)) (indexed-agree g n (suc i) (λ k less. h k (omega arith)))
-
 pub length-namesIn : (text : Bytes) (memory : List ℕ) → length (namesIn text memory) ≡ min (getD memory 0 0) 65
 unfolding namesIn
 length-namesIn text memory = length-indexed (nameIn text memory) (min (getD memory 0 0) 65) 0
@@ -203,18 +185,22 @@ module _ (text : Bytes) (at size : ℕ) (old : List ℕ) where
           (getD-set-other (set (set old (2 * i + 1) at) (2 * i + 1 + 1) size) 0 (2 * i + 1 + 1) (i + 1) 0 (λ e. omega arith)
           ∙ getD-set-same (set old (2 * i + 1) at) (2 * i + 1 + 1) size 0 (rw length-set (omega arith)))
 
-      count-new : min (getD new 0 0) 65 ≡ suc i
+      count-new : min (getD new 0 0) 65 ≡ i + 1
       count-new =
           rw (getD-set-same (set (set old (2 * i + 1) at) (2 * i + 1 + 1) size) 0 (i + 1) 0 (rw (length-set, length-set) (omega arith))) (omega arith)
 
       last : i ≡ min (getD old 0 0) 65
       last = omega (arith, found, length-namesIn text old, position-within x (namesIn text old))
 
+      alone-new : indexed (nameIn text new) (0 + i) 1 ≡ x ∷ []
+      unfolding indexed
+      alone-new = ap (λ (y : Name). y ∷ []) (ap (nameIn text new) (omega arith) ∙ name-new)
+
       names-new : namesIn text new ≡ namesIn text old ++ (x ∷ [])
       unfolding namesIn
       names-new =
-          rw (count-new, indexed-last (nameIn text new) i 0, ← last)
-          (ap₂ (λ l (y : Name). l ++ (y ∷ [])) (indexed-agree (nameIn text new) (nameIn text old) i 0 name-old) (ap (nameIn text new) (omega arith) ∙ name-new))
+          rw (count-new, ← indexed-append (nameIn text new) i 1 0, ← last)
+          (ap₂ _++_ (indexed-agree (nameIn text new) (nameIn text old) i 0 (λ k low less. name-old k less)) alone-new)
 
       unsettled : settled (namesIn text old) x ≡ false
       unsettled =

@@ -2,29 +2,22 @@
 -- Assumes nothing.
 use Prim.Native.Nat.{ℕ, _+_, _≤_, _<_}
 use native.Mathlib.Omega.{arith}
-use mathlib.Core.Path.{_≡_, refl, sym, ap, ap₂, _∙_}
+use mathlib.Core.Path.{_≡_, refl, ap, _∙_}
 use mathlib.Core.List.{List, [], _∷_, _++_}
-use mathlib.Core.Bool.{Bool, true, false, cond, false≢true}
-use lib.Dec.{eqb}
+use mathlib.Core.Bool.{Bool, true, false, cond}
 use lib.ListN.{length, drop}
 use lib.Seq.{drop-drop}
-use borrow.Author.Tests.{eqb-true}
 use Rattle.text.specs.Bytes.{Bytes, bytes, begins}
 use Rattle.text.specs.Reading.{Reader, give, _⇒_, oneOf}
-use Rattle.text.proofs.Laws.{and-left, and-right, Each}
+use Rattle.text.proofs.Laws.{Each}
+use Rattle.text.proofs.Reading.{begins-split}
+use Rattle.text.proofs.Found.{word-found}
 use Rattle.logic.specs.Formula.{all, any, implies, impliedBy, equivalent, Formula, truth}
 use Rattle.logic.specs.Text.{truthText}
 use Rattle.logic.specs.Reading.{readAtom, readEquality, readNegation, readTwo, readJunction, readQuantifier, formulaKinds}
 use Rattle.formula.specs.memory.FormulaReads.{readLeaf}
-use Rattle.formula.specs.memory.Openings.{pickOpening, bracketOpening, openingOf, readKind, Opens, ToldOpening}
+use Rattle.formula.specs.memory.Openings.{bracketOpening, openingOf, readKind, Opens, ToldOpening}
 use Rattle.formula.specs.declared.opening.Opening.{Opening}
-use Rattle.formula.proofs.memory.Lists.{begins-within}
-
-begins-split : (w s : Bytes) → begins w s ≡ true → s ≡ w ++ drop (length w) s
-begins-split [] s e = refl
-begins-split (a ∷ w) [] e = absurd (false≢true e)
-begins-split (a ∷ w) (b ∷ s) e =
-    ap₂ (λ (k : ℕ) (ks : Bytes). k ∷ ks) (sym (eqb-true a b (and-left (eqb a b) _ e))) (begins-split w s (and-right (eqb a b) _ e))
 
 -- by the first word that the text begins with
 module _ {A : Type 0} (last : Reader A) (s : Bytes) where
@@ -75,10 +68,10 @@ module _ (text : Bytes) (at : ℕ) (h : at ≤ length text) where
       record {
         is = λ r. ap (readKind r) (begins-split w s e) ∙ k r (drop (length w) s) ∙ ap (other r) (drop-drop (length w) at text);
         after = omega arith;
-        within = begins-within w text at h e;
+        within = word-found text at w h e .within;
       }
 
-  pick : (b : Bool) (x y : Opening) → (b ≡ true → ToldOpening text at x) → (b ≡ false → ToldOpening text at y) → ToldOpening text at (pickOpening b x y)
+  pick : (b : Bool) (x y : Opening) → (b ≡ true → ToldOpening text at x) → (b ≡ false → ToldOpening text at y) → ToldOpening text at (cond b x y)
   pick true x y k l = k refl
   pick false x y k l = l refl
 

@@ -14,6 +14,8 @@ use Rattle.text.specs.Bytes.{Bytes, next}
 use Rattle.text.specs.Outcome.{done, refused}
 use Rattle.text.specs.Reading.{Reader}
 use Rattle.text.specs.Problem.{Name, Problem}
+use Rattle.text.proofs.Separated.{prepended, prepended-none}
+use Rattle.text.proofs.FoundBytes.{byte-found}
 use Rattle.logic.specs.Formula.{termCount, Formula, truth, atom, equal, connective, quantifier, Formulas, noParts, part, partsOf, size, sizes}
 use Rattle.logic.specs.Names.{known, allKnown}
 use Rattle.logic.specs.Limits.{termVariables, variables, allVariables}
@@ -30,7 +32,7 @@ use Rattle.formula.specs.declared.read.PartsRead.{PartsRead}
 use Rattle.formula.specs.declared.read.PartsRead.the-variants as parts
 use Rattle.formula.proofs.memory.Facts.{facts-none, facts-last}
 use Rattle.formula.proofs.memory.Words.{allWords-sizes}
-use Rattle.formula.proofs.memory.Lists.{prepended, prepended-none, list-refused, list-full, list-last, list-more, byte-within}
+use Rattle.formula.proofs.memory.Lists.{list-refused, list-full, list-last, list-more}
 use Rattle.formula.proofs.memory.Entries.{GoesBy, each-left, each-right, entered-none, entered-alike, entered-then}
 use Rattle.formula.proofs.memory.TermReads.{termWord-goes, termWords-goes}
 
@@ -181,7 +183,7 @@ module _ (r : Reader Formula) (s : Setting) (most at : ℕ) (old : Memory) (to :
             taken = taken-more;
             few = parts-few s taken-more;
             after = omega (arith, p .after, f .after);
-            within = byte-within (s .text) after 44 comma (omega arith);
+            within = byte-found (s .text) after 44 (omega arith) comma .within;
           }
 
 pub some-more : (more : ℕ) (u : Bytes) → anotherFollows more u ≡ true → 0 < more

@@ -12,6 +12,8 @@ use Rattle.text.specs.Outcome.{Outcome, done, refused}
 use Rattle.text.specs.Outcome as outcome
 use Rattle.text.specs.Reading.{Reader, word}
 use Rattle.text.specs.Problem.{Name}
+use Rattle.text.proofs.Found.{word-found}
+use Rattle.text.proofs.FoundBytes.{byte-found}
 use Rattle.logic.specs.Formula.{Side, Formula, quantifier, size}
 use Rattle.logic.specs.Names.{known, besides}
 use Rattle.logic.specs.Limits.{variables, quantifiers}
@@ -20,7 +22,7 @@ use Rattle.formula.specs.memory.Words.{quantifierTag, words}
 use Rattle.formula.specs.memory.Facts.{factsOf, quantifierFacts}
 use Rattle.formula.specs.memory.NameTable.{Listed}
 use Rattle.formula.specs.memory.Entries.{Setting, setting, Memory, memory}
-use Rattle.formula.specs.memory.TermReads.{WordFound}
+use Rattle.formula.specs.memory.TermReads.{NameTaken}
 use Rattle.formula.specs.memory.FormulaReads.{Found, ToldBehind}
 use Rattle.formula.specs.memory.PartReads.{readGuarded, GuardedFound, ToldGuarded}
 use Rattle.formula.specs.declared.fact.Facts.{Facts}
@@ -29,7 +31,7 @@ use Rattle.formula.specs.declared.read.GuardedRead.{GuardedRead}
 use Rattle.formula.specs.declared.read.GuardedRead.the-variants as guarded
 use Rattle.formula.proofs.memory.Facts.{facts-quantifier, quantifiers-size}
 use Rattle.formula.proofs.memory.Words.{words-size}
-use Rattle.formula.proofs.memory.Lists.{byte-within, byte-read, byte-refused, begins-within}
+use Rattle.formula.proofs.memory.Lists.{byte-read, byte-refused}
 use Rattle.formula.proofs.memory.Entries.{entered-then, entered-index}
 use Rattle.formula.proofs.memory.PartReads.{words-goes}
 
@@ -47,7 +49,7 @@ module _ (s : Setting) (r : Reader Formula) (at : ℕ) (old : Memory) (to : ℕ)
 
     module _ (e : begins (bytes "]:") (drop after (s .text)) ≡ true) where
       pub guarded-within : after + 2 ≤ length (s .text)
-      guarded-within = begins-within (bytes "]:") (s .text) after (g .within) e
+      guarded-within = word-found (s .text) after (bytes "]:") (g .within) e .within
 
       pub guarded-bodiless : (number : ℕ) → r (drop (after + 2) (s .text)) ≡ refused number → readGuarded r (drop at (s .text)) ≡ refused number
       unfolding readGuarded word
@@ -130,7 +132,7 @@ module _ (s : Setting) (r : Reader Formula) (c : Side) (at : ℕ) where
   unfolding readQuantifier
   quantifier-nameless e = rw e
 
-  module _ (end : ℕ) (w : WordFound readVariable (s .text) at end) where
+  module _ (end : ℕ) (w : NameTaken readVariable (s .text) at end) where
     abbrev x : Name
     x = take (end - at) (drop at (s .text))
 
@@ -140,7 +142,7 @@ module _ (s : Setting) (r : Reader Formula) (c : Side) (at : ℕ) where
 
     module _ (h : next (drop end (s .text)) ≡ 91) where
       pub bracket-within : end + 1 ≤ length (s .text)
-      bracket-within = byte-within (s .text) end 91 h (omega arith)
+      bracket-within = byte-found (s .text) end 91 (omega arith) h .within
 
       quantifier-is : readQuantifier r c (drop at (s .text)) ≡ within-binding r c x (drop (end + 1) (s .text))
       unfolding readQuantifier

@@ -69,13 +69,8 @@ module _ (old : List ℕ) (at full to : ℕ) (p : Standing old at full to) (end 
         stored-as {new = getD old at 0 ∷ slice (at + 1) end old} (rw e)
         (record { holds = s .holds ∙ ap (sets old to) (sym same); sized = rw same (omega (arith, s .ends)) })
 
--- A theory's words, among them some in the middle: these stand at their place, and give way to others there.
+-- A theory's words, among them some in the middle: these give way to others in their place.
 module _ (old : List ℕ) (full : ℕ) (before middle after : List ℕ) (theory : take full old ≡ before ++ (middle ++ after)) where
-  pub middle-stands : drop (length before) old ≡ middle ++ (after ++ drop full old)
-  middle-stands =
-      ap (drop (length before)) (sym (take-append-drop full old) ∙ ap (λ (s : List ℕ). s ++ drop full old) theory ∙ append-assoc before (middle ++ after) (drop full old))
-      ∙ drop-append-seam before ((middle ++ after) ++ drop full old) ∙ append-assoc middle after (drop full old)
-
   pub spliced-middle : (new : List ℕ) → spliced old (length before) (length before + length middle) full new ≡ before ++ (new ++ after)
   spliced-middle new =
       let long = sym (length-take full old) ∙ ap length theory ∙ length-append before (middle ++ after) in

@@ -1,40 +1,27 @@
 -- The problem's predicates, looked at one after the other; and what is read and judged by them alone.
 -- Assumes nothing.
 use Prim.Native.Nat.{ℕ, zero, suc, _+_, _-_, _≤_, _<_, max}
-use native.Mathlib.Nat.{add-zero}
 use native.Mathlib.Numerals.{add-one, sub-one}
 use native.Mathlib.Omega.{arith}
 use mathlib.Core.Path.{_≡_, refl, sym, ap, ap₂, _∙_}
-use mathlib.Core.List.{List, [], _∷_, _++_, map}
+use mathlib.Core.List.{List, [], _++_}
 use mathlib.Core.Bool.{true, false, _&&_}
 use lib.Dec.{eqb}
 use Rattle.text.specs.Bytes.{Bytes, same}
 use Rattle.text.specs.Problem.{Name, Predicate, Problem, inputPredicates, predicates, named, declared, isInput}
 use Rattle.text.specs.memory.Table.{position, indexed, tableName, tableNames, tablePredicate, tableInput, problemIn}
 use Rattle.text.specs.declared.table.Table.{Table}
+use Rattle.text.proofs.Tables.{length-indexed, indexed-append, map-indexed}
 use Rattle.logic.specs.Formula.{Side, all, negation, implies, impliedBy, equivalent, junction, Formula, truth, atom, equal, connective, quantifier, Formulas, noParts, part}
 use Rattle.logic.specs.Names.{known, allKnown}
 use Rattle.logic.specs.Normal.{mentionsOnly, permits, hasForm, allHaveForm, isGNF}
 use Rattle.formula.specs.memory.Signature.{signatureOf}
-use Rattle.formula.proofs.memory.NameTable.{position-within, length-indexed}
-
-indexed-append : {A : Type 0} (f : ℕ → A) (n : ℕ) (i m : ℕ) → indexed f i (n + m) ≡ indexed f i n ++ indexed f (i + n) m
-unfolding indexed
-indexed-append f zero i m = let e : 0 + m ≡ m = omega arith in rw (e, add-zero i)
-indexed-append f (suc n) i m =
-    let e : suc n + m ≡ suc (n + m) = omega arith in
-    let k : suc i + n ≡ i + suc n = omega arith in
-    rw e (ap (λ l. f i ∷ l) (indexed-append f n (suc i) m ∙ rw k))
-
-map-indexed : {A B : Type 0} (g : A → B) (f : ℕ → A) (n i : ℕ) → map g (indexed f i n) ≡ indexed (λ k. g (f k)) i n
-unfolding indexed
-map-indexed g f zero i = refl
-map-indexed g f (suc n) i = ap (λ l. g (f i) ∷ l) (map-indexed g f n (suc i))
+use Rattle.formula.proofs.memory.NameTable.{position-within}
 
 module _ (problem : Bytes) (table : Table) (rows : List ℕ) where
   inputs-table : inputPredicates (problemIn problem table rows) ≡ indexed (tablePredicate problem table) 0 (table .inputs)
   unfolding problemIn
-  inputs-table = map-indexed (λ i. i .predicate) (tableInput problem table rows) (table .inputs) 0
+  inputs-table = map-indexed (tableInput problem table rows) (λ i. i .predicate) (table .inputs) 0
 
   predicates-table : predicates (problemIn problem table rows) ≡ indexed (tablePredicate problem table) 0 (max (table .inputs) (table .count))
   unfolding problemIn
@@ -43,7 +30,7 @@ module _ (problem : Bytes) (table : Table) (rows : List ℕ) where
       let e : max (table .inputs) (table .count) ≡ table .inputs + (table .count - table .inputs) = omega arith in
       let z : 0 + table .inputs ≡ table .inputs = omega arith in
       ap (λ l. l ++ indexed f (table .inputs) (table .count - table .inputs)) inputs-table
-      ∙ rw e (sym (indexed-append f (table .inputs) 0 (table .count - table .inputs) ∙ rw z))
+      ∙ rw e (rw z at (indexed-append f (table .inputs) (table .count - table .inputs) 0))
 
 pub domain-table : (problem : Bytes) (table : Table) → signatureOf problem table .domain ≡ table .domain
 unfolding signatureOf problemIn

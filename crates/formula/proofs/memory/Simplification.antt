@@ -17,7 +17,7 @@ use Rattle.logic.specs.Rules.{isTruth, hasTruth, without, unlessNone, simplifie
 use Rattle.formula.specs.memory.Kinds.{skip}
 use Rattle.formula.specs.memory.Words.{truthWord, connectiveTag, quantifierTag, partTotal, words}
 use Rattle.formula.specs.memory.Stored.{sideOf}
-use Rattle.formula.specs.memory.Simplified.{startsTruth, truthCount, wordsWithout, pickSimplified, simplification, simplifiedBy, simplifiedWords}
+use Rattle.formula.specs.memory.Simplified.{startsTruth, truthCount, wordsWithout, simplification, simplifiedBy, simplifiedWords}
 use Rattle.formula.specs.declared.simplify.Simplified.the-variants.{Value, Parts}
 use Rattle.formula.proofs.memory.Naming.{Naming, wordsIn, allWordsIn}
 use Rattle.formula.proofs.memory.Words.{length-words, skip-first, afterFirst-words}
@@ -101,7 +101,7 @@ module _ (N : Naming) (c : Side) (fs : Formulas) where
 
   -- the parts that stay, where none decides
   rest-words : (hs : Formulas) → wordsWithout (unit c) (partTotal fs) (allWordsIn N fs) ≡ allWordsIn N hs
-      → simplifiedBy (unit c) (partTotal fs) (allWordsIn N fs) (pickSimplified (eqb (partTotal hs) 0) (Value (unit c)) (Parts (partTotal hs))) ≡ wordsIn N (unlessNone c hs)
+      → simplifiedBy (unit c) (partTotal fs) (allWordsIn N fs) (cond (eqb (partTotal hs) 0) (Value (unit c)) (Parts (partTotal hs))) ≡ wordsIn N (unlessNone c hs)
   unfolding words
   rest-words noParts e = refl
   rest-words (part h hs) e = rw (ne-eqb (suc (partTotal hs)) 0 (λ q. omega arith), e) (side c)
@@ -118,7 +118,7 @@ module _ (N : Naming) (c : Side) (fs : Formulas) where
     where
       pick : (d : Bool)
           → simplifiedBy (unit c) (partTotal fs) (allWordsIn N fs)
-          (pickSimplified (not d) (pickSimplified (eqb (partTotal stay) 0) (Value (unit c)) (Parts (partTotal stay))) (Value (not (unit c))))
+          (cond (not d) (cond (eqb (partTotal stay) 0) (Value (unit c)) (Parts (partTotal stay))) (Value (not (unit c))))
           ≡ wordsIn N (cond d (truth (not (unit c))) (unlessNone c stay))
       pick true = refl
       pick false = rest-words stay (rw append-nil at (wordsWithout-words N (unit c) fs []))

@@ -9,13 +9,14 @@ use mathlib.Core.Bool.{Bool}
 use borrow.Author.Tests.{eq-eqb, ne-eqb}
 use Rattle.logic.specs.Formula.{Term, element, variable, Terms, noTerms, term, termCount, Side, all, any, Connective, negation, implies, impliedBy, equivalent, junction}
 use Rattle.logic.specs.Formula.{Formula, truth, atom, equal, connective, quantifier, Formulas, noParts, part, depth, depths}
+use Rattle.logic.specs.Meaning.{unit}
 use Rattle.formula.specs.memory.Kinds.{kindOf}
 use Rattle.formula.specs.memory.Words.{partTotal, termWord, words}
 use Rattle.formula.specs.memory.Stored.{afterFirst, termOf, termsAt, partsBy, formulaBy, formulaAt}
 use Rattle.formula.specs.declared.word.Kind.{Kind}
 use Rattle.formula.specs.declared.word.Kind.the-variants as kind
 use Rattle.formula.proofs.memory.Naming.{Naming, wordsIn, allWordsIn, termWordsIn, formulaIn, TermStorable, TermsStorable, Storable, AllStorable}
-use Rattle.formula.proofs.memory.Words.{isEvery, signOf, kind-truth, kind-equal, kind-connective, kind-quantifier, kind-atom, afterFirst-words}
+use Rattle.formula.proofs.memory.Words.{signOf, kind-truth, kind-equal, kind-connective, kind-quantifier, kind-atom, afterFirst-words}
 
 module _ (N : Naming) where
   termOf-termWord : (t : Term) → TermStorable N t → termOf (N .variableName) (termWord (N .variableIndex) t) ≡ t
@@ -73,7 +74,7 @@ module _ (N : Naming) where
     by-connective (junction any) n s = refl
 
     by-quantifier : (c : Side) (x : ℕ) (s : List ℕ) → x < 64
-        → ofKind read (kind.Quantifier (isEvery c) x) s ≡ quantifier c (N .variableName x) (read s) (read (afterFirst s))
+        → ofKind read (kind.Quantifier (unit c) x) s ≡ quantifier c (N .variableName x) (read s) (read (afterFirst s))
     unfolding formulaBy
     by-quantifier all x s h = let e : x % 64 ≡ x = omega arith in rw e
     by-quantifier any x s h = let e : x % 64 ≡ x = omega arith in rw e

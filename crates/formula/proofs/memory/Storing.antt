@@ -1,31 +1,19 @@
 -- Stores one after the other. Each loop and each run of calls that stores has one invariant: what is to be stored in all is what memory holds now with what is still to come.
 -- Assumes nothing.
 use Prim.Native.Nat.{ℕ, suc, _+_, _-_, _≤_, _<_}
-use native.Mathlib.Nat.{add-zero, add-suc, suc-add}
+use native.Mathlib.Nat.{add-zero}
 use native.Mathlib.Numerals.{add-one}
 use native.Mathlib.Omega.{arith}
 use mathlib.Core.Path.{_≡_, refl, sym, ap, _∙_}
 use mathlib.Core.List.{List, [], _∷_, _++_, append-nil}
 use lib.ListN.{length, getD, take, drop, set, length-append}
-use lib.Seq.{slice, sets, slice-empty, slice-cons, length-slice, length-sets, take-set-le, take-take, getD-take, getD-drop, drop-set-lt, set-out}
+use lib.Seq.{slice, sets, slice-empty, slice-cons, length-slice, length-sets, take-set-le, take-take, getD-take, getD-drop, drop-set-lt}
+use Rattle.text.proofs.Laws.{sets-append}
 use Rattle.formula.specs.memory.Storing.{Stores, spliced, Placed, Rewritten}
-
-pub sets-append : (xs ys l : List ℕ) (i : ℕ) → sets (sets l i xs) (i + length xs) ys ≡ sets l i (xs ++ ys)
-sets-append [] ys l i = rw add-zero
-sets-append (x ∷ xs) ys l i = rw (add-suc, ← suc-add) (sets-append xs ys (set l i x) (suc i))
 
 pub take-sets : (new l : List ℕ) (n i : ℕ) → n ≤ i → take n (sets l i new) ≡ take n l
 take-sets [] l n i h = refl
 take-sets (w ∷ new) l n i h = take-sets new (set l i w) n (suc i) (omega arith) ∙ take-set-le n l i w h
-
--- One word.
-
-pub stores-word : (work : List ℕ) (to word : ℕ) → Stores work to (word ∷ []) (to + 1) (set work to word)
-stores-word work to word = record { holds = refl; ends = refl }
-
--- past the end
-pub stores-beyond : (work : List ℕ) (to word : ℕ) → length work ≤ to → Stores work to (word ∷ []) (to + 1) work
-stores-beyond work to word h = record { holds = sym (set-out work to word h); ends = refl }
 
 -- `whole` stored from `to` on in `old` is `rest` stored from `j` on in `work`, which is still as it was before `to`
 pub record Ahead (old : List ℕ) (to : ℕ) (whole work : List ℕ) (j : ℕ) (rest : List ℕ) : Type 0 where
@@ -40,7 +28,7 @@ ahead-start old to whole = record { stores = refl; ends = refl; kept = refl; aft
 module _ {old : List ℕ} {to : ℕ} {whole work : List ℕ} {j : ℕ} {rest : List ℕ} (a : Ahead old to whole work j rest) where
   pub ahead-turn : {new later changed : List ℕ} {next : ℕ} → rest ≡ new ++ later → Stores work j new next changed → Ahead old to whole changed next later
   ahead-turn {new} {later} e s = record {
-    stores = a .stores ∙ rw (e, s .holds, s .ends, sets-append new later work j);
+    stores = a .stores ∙ rw (e, s .holds, s .ends, ← sets-append work j new later);
     ends = a .ends ∙ rw (e, s .ends, length-append) (omega arith);
     kept = rw (s .holds) (take-sets new work to j (a .after)) ∙ a .kept;
     after = omega (arith, a .after, s .ends);

@@ -19,6 +19,8 @@ use Rattle.text.specs.memory.Numbers.{SmallFound, LargeFound}
 use Rattle.text.proofs.Laws.{or-left, Each}
 use Rattle.text.proofs.Outcome.{Allowed}
 use Rattle.text.proofs.Reading.{span-split}
+use Rattle.text.proofs.Separated.{prepended, prepended-none}
+use Rattle.text.proofs.FoundBytes.{byte-found}
 use Rattle.logic.specs.Text.{isVariable}
 use Rattle.logic.specs.Formula.{Term, element, variable, Terms, noTerms, term, termsOf}
 use Rattle.logic.specs.Reading.{readVariable, readTerm}
@@ -34,10 +36,10 @@ use Rattle.formula.specs.declared.term.TermsRead.the-variants as all
 use Rattle.formula.specs.memory.NameTable.{extendedBy, Listed}
 use Rattle.formula.specs.memory.Entries.{Memory, memory, Entered}
 use Rattle.formula.specs.memory.Lists.{upTo}
-use Rattle.formula.specs.memory.TermReads.{WordFound, ToldWord, readElement, readVariableTerm, TermFound, ToldTerm, TermsTaken, TermsFound, ToldTerms, closedUpTo, readTermList}
+use Rattle.formula.specs.memory.TermReads.{NameTaken, ToldWord, readElement, readVariableTerm, TermFound, ToldTerm, TermsTaken, TermsFound, ToldTerms, closedUpTo, readTermList}
 use Rattle.formula.proofs.memory.Facts.{and-swap}
 use Rattle.formula.proofs.memory.Entries.{GoesBy, each-left, each-right, entered-none, entered-alike, entered-then, entered-index}
-use Rattle.formula.proofs.memory.Lists.{prepended, prepended-none, list-refused, list-full, list-last, list-more, byte-within, byte-read, byte-refused, Shorter, Shrinks, upTo-separated}
+use Rattle.formula.proofs.memory.Lists.{list-refused, list-full, list-last, list-more, byte-read, byte-refused, Shorter, Shrinks, upTo-separated}
 
 -- Words.
 
@@ -91,7 +93,7 @@ module _ (text : Bytes) (at : ℕ) where
   name-refused e = token-refused isLetterOrDigit text at isName (rw (first-span isLetterOrDigit isCapital refl not-letter (drop at text) ∙ e))
 
   pub name-found : (end : ℕ) → isCapital (next (drop at text)) ≡ true → end ≡ at + length (span isLetterOrDigit (drop at text)) → end ≤ length text
-      → WordFound (readName 5) text at end
+      → NameTaken (readName 5) text at end
   unfolding readName
   name-found end e ends within =
       let first = first-span isLetterOrDigit isCapital refl not-letter (drop at text) ∙ e in
@@ -126,14 +128,14 @@ module _ (text : Bytes) (at : ℕ) where
     unfolding readVariable
     variable-truth t = token-refused isSmallOrDigit text at isVariable (spelled true t)
 
-    pub variable-found : (same x (bytes "true") || same x (bytes "false")) ≡ false → end ≤ length text → WordFound readVariable text at end
+    pub variable-found : (same x (bytes "true") || same x (bytes "false")) ≡ false → end ≤ length text → NameTaken readVariable text at end
     unfolding readVariable
     variable-found f within =
         let some = some-span isSmallOrDigit isSmall refl (drop at text) first in
         record { is = token-found isSmallOrDigit text at end ends isVariable (spelled false f); after = omega arith; within = within }
 
 module _ (reader : Reader Name) (text : Bytes) (at : ℕ) (r : Behind) (t : ToldWord reader text at r) where
-  pub word-done : (after : ℕ) → r ≡ behind.At after → WordFound reader text at after
+  pub word-done : (after : ℕ) → r ≡ behind.At after → NameTaken reader text at after
   word-done after e = subst (ToldWord reader text at) e t
 
   pub word-malformed : r ≡ behind.Malformed → reader (drop at text) ≡ refused 5
@@ -181,7 +183,7 @@ module _ (text : Bytes) (n : ℕ) (bound : Name → Bool) (at : ℕ) (names work
     abbrev y : Name
     y = take (after - at) (drop at text)
 
-    pub variable-entered : (index : ℕ) (more : List ℕ) (named : Bool) → WordFound readVariable text at after → Listed text y names more index → named ≡ bound y
+    pub variable-entered : (index : ℕ) (more : List ℕ) (named : Bool) → NameTaken readVariable text at after → Listed text y names more index → named ≡ bound y
         → TermFound text n bound readVariableTerm at (memory names work) to after named (memory more (set work to (index * 16 + 13)))
     unfolding readVariableTerm
     variable-entered index more named f listed e =
@@ -313,7 +315,7 @@ module _ (text : Bytes) (n : ℕ) (bound : Name → Bool) where
               is = p .is ∙ list-more readTerm text i more (p .items) (f .term) after (f .is) some h;
               taken = terms-more (p .items) count named old mid to (p .taken) i after one new f;
               after = omega (arith, p .after, f .after);
-              within = byte-within text after 44 h (omega arith);
+              within = byte-found text after 44 (omega arith) h .within;
             }
 
 -- a bracket behind them
@@ -335,7 +337,7 @@ module _ (text : Bytes) (n : ℕ) (bound : Name → Bool) (most at : ℕ) (old :
           is = rw (f .is, byte-read text after 41 (omega arith) 5 h);
           taken = f .taken;
           after = omega (arith, f .after);
-          within = byte-within text after 41 h (omega arith);
+          within = byte-found text after 41 (omega arith) h .within;
         }
 
 module _ (text : Bytes) (n : ℕ) (bound : Name → Bool) (reader : Reader (List Term)) (at : ℕ) (old : Memory) (to : ℕ) (new : Memory) (r : TermsRead)

@@ -18,6 +18,7 @@ use Rattle.text.specs.Problem.{Name, Problem}
 use Rattle.text.specs.memory.Table.{problemIn}
 use Rattle.text.specs.declared.table.Table.{Table}
 use Rattle.text.proofs.Laws.{and-left, Each, each-weaken}
+use Rattle.text.proofs.FoundBytes.{byte-found}
 use Rattle.logic.specs.Formula.{Formula, partsOf, size, sizes}
 use Rattle.logic.specs.Reading.{readFormula}
 use Rattle.logic.specs.Names.{known, none, closed, namesFit}
@@ -34,7 +35,7 @@ use Rattle.formula.specs.declared.fact.Facts.{Facts}
 use Rattle.formula.proofs.memory.Bindings.{bound-none}
 use Rattle.formula.proofs.memory.Signature.{known-table, normal-table}
 use Rattle.formula.proofs.memory.Words.{allWords-sizes}
-use Rattle.formula.proofs.memory.Lists.{byte-within, byte-read, byte-refused}
+use Rattle.formula.proofs.memory.Lists.{byte-read, byte-refused}
 use Rattle.formula.proofs.memory.NameTable.{extendedBy-settles}
 use Rattle.formula.proofs.memory.Entries.{entered-none, entered-alike, entered-then, index-kept}
 use Rattle.formula.proofs.memory.PartReads.{words-goes, allWords-goes, allVariables-last, allWords-last}
@@ -86,7 +87,7 @@ module _ (problem : Bytes) (table : Table) (rows : List ℕ) (text : Bytes) (at 
               measured = f .measured;
               counted = guarded-is;
               after = omega (arith, f .after);
-              within = byte-within text after 10 h (omega arith);
+              within = byte-found text after 10 (omega arith) h .within;
               entered = entered-alike text refl
                   (λ k. known-table problem table rows (f .formula) ∙ and-left (known P (f .formula)) (closed none (f .formula)) (sym named-is ∙ named)) (λ ix. refl) (f .entered);
             }

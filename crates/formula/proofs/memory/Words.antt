@@ -1,4 +1,4 @@
--- The words of a formula: one for each unit of its size, and the kinds of its words count its parts, so that `skip` passes over it whole.
+-- The words of a formula: which are elements, one for each unit of its size, and the kinds of its words count its parts, so that `skip` passes over it whole.
 -- Assumes nothing.
 use Prim.Native.Nat.{ℕ, suc, _+_, _*_, _/_, _%_, _<_}
 use native.Mathlib.Nat.{add-suc, add-zero}
@@ -12,7 +12,9 @@ use lib.Seq.{drop-append-seam}
 use Rattle.text.specs.Problem.{Name}
 use Rattle.logic.specs.Formula.{Term, element, variable, Terms, noTerms, term, termCount, Side, all, any, Connective, negation, implies, impliedBy, equivalent, junction}
 use Rattle.logic.specs.Formula.{Formula, truth, atom, equal, connective, quantifier, Formulas, noParts, part, size, sizes}
-use Rattle.formula.specs.memory.Kinds.{kindOf, kindBy, partCount, skip}
+use Rattle.logic.specs.Meaning.{unit}
+use Rattle.logic.specs.Normal.{elementsOnly}
+use Rattle.formula.specs.memory.Kinds.{kindOf, kindBy, partCount, skip, elementsAt}
 use Rattle.formula.specs.memory.Words.{truthWord, connectiveTag, quantifierTag, partTotal, termWord, termWords, words, allWords}
 use Rattle.formula.specs.memory.Stored.{afterFirst}
 use Rattle.formula.specs.declared.word.Sign.{Sign}
@@ -39,16 +41,13 @@ pub kind-equal : kindOf 11 ≡ kind.Equality
 unfolding kindBy
 kind-equal = refl
 
-abbrev pub isEvery : Side → Bool
-isEvery all = true
-isEvery any = false
-
+-- a side's flag is its unit: true for `&`
 abbrev pub signOf : Connective → Sign
 signOf negation = sign.Negation
 signOf implies = sign.Implies
 signOf impliedBy = sign.ImpliedBy
 signOf equivalent = sign.Equivalent
-signOf (junction c) = sign.Junction (isEvery c)
+signOf (junction c) = sign.Junction (unit c)
 
 pub kind-connective : (o : Connective) (n : ℕ) → kindOf (n * 16 + connectiveTag o) ≡ kind.Connective (signOf o) n
 unfolding kindBy
@@ -59,7 +58,7 @@ kind-connective equivalent n = kind-tag 7 n (omega arith)
 kind-connective (junction all) n = kind-tag 3 n (omega arith)
 kind-connective (junction any) n = kind-tag 4 n (omega arith)
 
-pub kind-quantifier : (c : Side) (x : ℕ) → kindOf (x * 16 + quantifierTag c) ≡ kind.Quantifier (isEvery c) x
+pub kind-quantifier : (c : Side) (x : ℕ) → kindOf (x * 16 + quantifierTag c) ≡ kind.Quantifier (unit c) x
 unfolding kindBy
 kind-quantifier all x = kind-tag 8 x (omega arith)
 kind-quantifier any x = kind-tag 9 x (omega arith)
@@ -75,6 +74,19 @@ pub kind-term : (variableIndex : Name → ℕ) (t : Term) → kindOf (termWord v
 unfolding kindBy
 kind-term variableIndex (element v) = kind-tag 12 v (omega arith)
 kind-term variableIndex (variable x) = kind-tag 13 (variableIndex x) (omega arith)
+
+-- Elements.
+
+module _ (N : Naming) where
+  pub elements-words : (ts : Terms) (s : List ℕ) → elementsAt (termCount ts) (termWordsIn N ts ++ s) ≡ elementsOnly ts
+  unfolding elementsAt
+  elements-words noTerms s = refl
+  elements-words (term (element v) ts) s =
+      let tag : (v * 16 + 12) % 16 ≡ 12 = omega arith in
+      rw tag (elements-words ts s)
+  elements-words (term (variable x) ts) s =
+      let tag : (N .variableIndex x * 16 + 13) % 16 ≡ 13 = omega arith in
+      rw tag
 
 -- Size.
 
@@ -100,9 +112,6 @@ module _ (variableIndex predicateIndex : Name → ℕ) where
 module _ (N : Naming) where
   pub length-words : (f : Formula) → length (wordsIn N f) ≡ size f
   length-words f = words-size (N .variableIndex) (N .predicateIndex) f
-
-  pub length-allWords : (fs : Formulas) → length (allWordsIn N fs) ≡ sizes fs
-  length-allWords fs = allWords-sizes (N .variableIndex) (N .predicateIndex) fs
 
 -- Whole formulas are passed over whole.
 

@@ -5,20 +5,12 @@ use mathlib.Core.Bool.{Bool, true, false, not, _&&_}
 use lib.Dec.{eqb, leb, ltb}
 use lib.ListN.{getD, drop}
 use Rattle.text.specs.declared.table.Table.{Table}
-use Rattle.formula.specs.memory.Kinds.{kindOf}
+use Rattle.formula.specs.memory.Kinds.{kindOf, elementsAt}
 use Rattle.formula.specs.memory.Stored.{afterFirst}
 use Rattle.formula.specs.declared.word.Sign.{Sign}
 use Rattle.formula.specs.declared.word.Sign.the-variants.{Negation, Implies, ImpliedBy, Equivalent, Junction}
 use Rattle.formula.specs.declared.word.Kind.{Kind}
 use Rattle.formula.specs.declared.word.Kind.the-variants.{Truth, Atom, Equality, Connective, Quantifier, Term}
-
-abbrev pub isElementWord : ℕ → Bool
-isElementWord word = eqb (word % 16) 12
-
--- so many terms, one after the other, are elements
-unfoldable pub elementsAt : ℕ → List ℕ → Bool
-elementsAt zero s = true
-elementsAt (suc n) s = isElementWord (getD s 0 0) && elementsAt n (drop 1 s)
 
 -- so many formulas, one after the other, pass a test
 unfoldable pub allAt : (List ℕ → Bool) → ℕ → List ℕ → Bool

@@ -1,13 +1,13 @@
 -- Which rules fit the formula at the head of a list of words, and what they make of it.
-use Prim.Native.Nat.{ℕ, zero, suc, _%_}
+use Prim.Native.Nat.{ℕ, _%_}
 use mathlib.Core.List.{List}
-use mathlib.Core.Bool.{Bool, true, false, not, _&&_, Bool·beq}
+use mathlib.Core.Bool.{Bool, true, false, cond, not, Bool·beq}
 use lib.Dec.{eqb, ltb}
 use lib.ListN.{getD, drop, replicate}
 use Rattle.text.specs.declared.table.Table.{Table}
 use Rattle.text.specs.declared.rule_line.Rule.{Rule}
 use Rattle.text.specs.declared.rule_line.Rule.the-variants.{Snand, Snor, Stn, Epred, Eprop, Iq}
-use Rattle.formula.specs.memory.Kinds.{kindOf}
+use Rattle.formula.specs.memory.Kinds.{kindOf, elementsAt}
 use Rattle.formula.specs.memory.Values.{trueAt}
 use Rattle.formula.specs.declared.word.Sign.{Sign}
 use Rattle.formula.specs.declared.word.Sign.the-variants as sign
@@ -16,17 +16,13 @@ use Rattle.formula.specs.declared.word.Kind.the-variants as kind
 use Rattle.formula.specs.declared.decide.Fit.{Fit}
 use Rattle.formula.specs.declared.decide.Fit.the-variants.{Value, Junction, Quantifier, Misfit}
 
-abbrev pub pickFit : Bool → Fit → Fit → Fit
-pickFit true a b = a
-pickFit false a b = b
-
 -- SNAND for an `&`, SNOR for an `|`
 abbrev pub signFit : Bool → Sign → Fit
 signFit every sign.Negation = Misfit
 signFit every sign.Implies = Misfit
 signFit every sign.ImpliedBy = Misfit
 signFit every sign.Equivalent = Misfit
-signFit every (sign.Junction side) = pickFit (Bool·beq every side) (Junction every) Misfit
+signFit every (sign.Junction side) = cond (Bool·beq every side) (Junction every) Misfit
 
 abbrev pub junctionFit : Bool → Kind → Fit
 junctionFit every (kind.Truth b) = Misfit
@@ -56,7 +52,7 @@ abbrev pub negationFit : Kind → Kind → Fit
 negationFit (kind.Truth b) first = Misfit
 negationFit (kind.Atom p n) first = Misfit
 negationFit kind.Equality first = Misfit
-negationFit (kind.Connective o n) first = pickFit (isNegation o) (pickFit (eqb n 1) (negatedFit first) Misfit) Misfit
+negationFit (kind.Connective o n) first = cond (isNegation o) (cond (eqb n 1) (negatedFit first) Misfit) Misfit
 negationFit (kind.Quantifier e x) first = Misfit
 negationFit kind.Term first = Misfit
 
@@ -69,42 +65,28 @@ quantifierFit (kind.Connective o n) = Misfit
 quantifierFit (kind.Quantifier e x) = Quantifier
 quantifierFit kind.Term = Misfit
 
--- each of so many terms is an element
-unfoldable pub elementsAt : ℕ → List ℕ → Bool
-elementsAt zero s = true
-elementsAt (suc n) s = eqb (getD s 0 0 % 16) 12 && elementsAt n (drop 1 s)
-
 module _ (table : Table) (rows : List ℕ) where
   -- an atom or equality of so many terms: its value in the input structure
   unfoldable pub valueFit : ℕ → List ℕ → Fit
-  valueFit n s = pickFit (elementsAt n (drop 1 s)) (Value (trueAt table rows 1 (replicate 64 0) s)) Misfit
+  valueFit n s = cond (elementsAt n (drop 1 s)) (Value (trueAt table rows 1 (replicate 64 0) s)) Misfit
 
   -- of an input predicate
   abbrev pub inputFit : ℕ → ℕ → List ℕ → Fit
-  inputFit p n s = pickFit (ltb p (table .inputs)) (valueFit (n % 4) s) Misfit
+  inputFit p n s = cond (ltb p (table .inputs)) (valueFit (n % 4) s) Misfit
 
-  -- EPRED
-  abbrev pub predicateFit : Kind → List ℕ → Fit
-  predicateFit (kind.Truth b) s = Misfit
-  predicateFit (kind.Atom p n) s = pickFit (eqb n 0) Misfit (inputFit p n s)
-  predicateFit kind.Equality s = valueFit 2 s
-  predicateFit (kind.Connective o n) s = Misfit
-  predicateFit (kind.Quantifier e x) s = Misfit
-  predicateFit kind.Term s = Misfit
-
-  -- EPROP
-  abbrev pub propositionFit : Kind → List ℕ → Fit
-  propositionFit (kind.Truth b) s = Misfit
-  propositionFit (kind.Atom p n) s = pickFit (eqb n 0) (inputFit p n s) Misfit
-  propositionFit kind.Equality s = Misfit
-  propositionFit (kind.Connective o n) s = Misfit
-  propositionFit (kind.Quantifier e x) s = Misfit
-  propositionFit kind.Term s = Misfit
+  -- EPRED, where some terms are asked for, EPROP, where none are
+  abbrev pub evaluationFit : Bool → Kind → List ℕ → Fit
+  evaluationFit some (kind.Truth b) s = Misfit
+  evaluationFit some (kind.Atom p n) s = cond (Bool·beq some (ltb 0 n)) (inputFit p n s) Misfit
+  evaluationFit some kind.Equality s = cond some (valueFit 2 s) Misfit
+  evaluationFit some (kind.Connective o n) s = Misfit
+  evaluationFit some (kind.Quantifier e x) s = Misfit
+  evaluationFit some kind.Term s = Misfit
 
   abbrev pub ruleFit : Rule → List ℕ → Fit
   ruleFit Snand s = junctionFit true (kindOf (getD s 0 0))
   ruleFit Snor s = junctionFit false (kindOf (getD s 0 0))
   ruleFit Stn s = negationFit (kindOf (getD s 0 0)) (kindOf (getD s 1 0))
-  ruleFit Epred s = predicateFit (kindOf (getD s 0 0)) s
-  ruleFit Eprop s = propositionFit (kindOf (getD s 0 0)) s
+  ruleFit Epred s = evaluationFit true (kindOf (getD s 0 0)) s
+  ruleFit Eprop s = evaluationFit false (kindOf (getD s 0 0)) s
   ruleFit Iq s = quantifierFit (kindOf (getD s 0 0))

@@ -1,7 +1,7 @@
 -- How a formula opens: by the sign that the text begins with, and where what follows the sign begins.
 use Prim.Native.Nat.{ℕ, _+_, _≤_, _<_}
 use mathlib.Core.Path.{_≡_}
-use mathlib.Core.Bool.{Bool, true, false}
+use mathlib.Core.Bool.{true, false, cond}
 use lib.ListN.{length, drop}
 use Rattle.text.specs.Bytes.{Bytes, bytes, next, begins}
 use Rattle.text.specs.Reading.{Reader, oneOf}
@@ -13,23 +13,19 @@ use Rattle.formula.specs.declared.word.Sign.the-variants.{Negation, Impl
 use Rattle.formula.specs.declared.opening.Opening.{Opening}
 use Rattle.formula.specs.declared.opening.Opening.the-variants as opening
 
-abbrev pub pickOpening : Bool → Opening → Opening → Opening
-pickOpening true a b = a
-pickOpening false a b = b
-
 unfoldable pub bracketOpening : ℕ → Bytes → Opening
 bracketOpening at s =
-    pickOpening (begins (bytes "&(") s) (opening.Connective (Junction true) (at + 2))
-    (pickOpening (begins (bytes "|(") s) (opening.Connective (Junction false) (at + 2))
-    (pickOpening (begins (bytes "=>(") s) (opening.Connective Implies (at + 3))
-    (pickOpening (begins (bytes "<=(") s) (opening.Connective ImpliedBy (at + 3))
-    (pickOpening (begins (bytes "<=>(") s) (opening.Connective Equivalent (at + 4)) opening.Leaf))))
+    cond (begins (bytes "&(") s) (opening.Connective (Junction true) (at + 2))
+    (cond (begins (bytes "|(") s) (opening.Connective (Junction false) (at + 2))
+    (cond (begins (bytes "=>(") s) (opening.Connective Implies (at + 3))
+    (cond (begins (bytes "<=(") s) (opening.Connective ImpliedBy (at + 3))
+    (cond (begins (bytes "<=>(") s) (opening.Connective Equivalent (at + 4)) opening.Leaf))))
 
 unfoldable pub openingOf : ℕ → Bytes → Opening
 openingOf at s =
-    pickOpening (begins (bytes "~") s) (opening.Connective Negation (at + 1))
-    (pickOpening (begins (bytes "!") s) (opening.Quantifier true (at + 1))
-    (pickOpening (begins (bytes "?") s) (opening.Quantifier false (at + 1)) (bracketOpening at s)))
+    cond (begins (bytes "~") s) (opening.Connective Negation (at + 1))
+    (cond (begins (bytes "!") s) (opening.Quantifier true (at + 1))
+    (cond (begins (bytes "?") s) (opening.Quantifier false (at + 1)) (bracketOpening at s)))
 
 -- what follows a connective's sign, where each part is read by r
 abbrev pub readConnective : Reader Formula → Connective → Reader Formula

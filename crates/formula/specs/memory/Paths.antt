@@ -1,7 +1,7 @@
 -- The place of a path in memory.
 use Prim.Native.Nat.{ℕ, _+_, _≤_}
 use mathlib.Core.List.{List, [], _∷_}
-use mathlib.Core.Bool.{Bool, true, false}
+use mathlib.Core.Bool.{cond}
 use lib.Dec.{ltb}
 use lib.ListN.{getD, drop}
 use Rattle.formula.specs.memory.Kinds.{kindOf, skip}
@@ -19,13 +19,9 @@ subformulaCount (Connective o n) = n
 subformulaCount (Quantifier e x) = 2
 subformulaCount Term = 0
 
-abbrev pub pickPlace : Bool → Place → Place → Place
-pickPlace true a b = a
-pickPlace false a b = b
-
 -- one level down from a place
 unfoldable pub placeBelow : List ℕ → ℕ → ℕ → Place
-placeBelow work at i = pickPlace (ltb i (subformulaCount (kindOf (getD work at 0)))) (At (at + 1 + skip (drop (at + 1) work) i)) Nowhere
+placeBelow work at i = cond (ltb i (subformulaCount (kindOf (getD work at 0)))) (At (at + 1 + skip (drop (at + 1) work) i)) Nowhere
 
 abbrev pub onward : Place → (ℕ → Place) → Place
 onward (At j) k = k j

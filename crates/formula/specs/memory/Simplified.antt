@@ -1,7 +1,7 @@
 -- SNAND and SNOR on words: among the parts of a connective, those that are a truth value.
 use Prim.Native.Nat.{ℕ, zero, suc, _+_, _-_, _*_, _≤_}
 use mathlib.Core.List.{List, [], _∷_, _++_}
-use mathlib.Core.Bool.{Bool, true, false, cond, not}
+use mathlib.Core.Bool.{Bool, cond, not}
 use lib.Dec.{eqb}
 use lib.ListN.{getD, take}
 use Rattle.formula.specs.memory.Kinds.{skip}
@@ -25,15 +25,11 @@ unfoldable pub wordsWithout : Bool → ℕ → List ℕ → List ℕ
 wordsWithout b zero s = []
 wordsWithout b (suc n) s = cond (startsTruth b s) [] (take (skip s 1) s) ++ wordsWithout b n (afterFirst s)
 
-abbrev pub pickSimplified : Bool → Simplified → Simplified → Simplified
-pickSimplified true r s = r
-pickSimplified false r s = s
-
 -- a value, or so many parts that stay: a part `false` decides an `&`, parts `true` are dropped; an `|` likewise with the values exchanged
 unfoldable pub simplification : Bool → ℕ → List ℕ → Simplified
 simplification every n s =
-    pickSimplified (eqb (truthCount (not every) n s) 0)
-    (pickSimplified (eqb (n - truthCount every n s) 0) (Value every) (Parts (n - truthCount every n s)))
+    cond (eqb (truthCount (not every) n s) 0)
+    (cond (eqb (n - truthCount every n s) 0) (Value every) (Parts (n - truthCount every n s)))
     (Value (not every))
 
 abbrev pub simplifiedBy : Bool → ℕ → List ℕ → Simplified → List ℕ

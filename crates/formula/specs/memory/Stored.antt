@@ -1,7 +1,7 @@
 -- The formula that stands at the head of a list of words, whatever the words are: each index is taken within its table, and past the end a word is 0.
 use Prim.Native.Nat.{ℕ, zero, suc, _/_, _%_}
 use mathlib.Core.List.{List, [], _∷_}
-use mathlib.Core.Bool.{Bool, true, false}
+use mathlib.Core.Bool.{Bool, true, false, cond}
 use lib.Dec.{eqb}
 use lib.ListN.{getD, drop}
 use Rattle.text.specs.Problem.{Name}
@@ -28,14 +28,10 @@ connectiveOf (Junction every) = junction (sideOf every)
 abbrev pub afterFirst : List ℕ → List ℕ
 afterFirst s = drop (skip s 1) s
 
-abbrev pub pickTerm : Bool → Term → Term → Term
-pickTerm true s t = s
-pickTerm false s t = t
-
 -- by the name of each variable
 module _ (variableName : ℕ → Name) where
   abbrev pub termOf : ℕ → Term
-  termOf word = pickTerm (eqb (word % 16) 12) (element (word / 16 % 256)) (variable (variableName (word / 16 % 64)))
+  termOf word = cond (eqb (word % 16) 12) (element (word / 16 % 256)) (variable (variableName (word / 16 % 64)))
 
   unfoldable pub termsAt : ℕ → List ℕ → Terms
   termsAt zero s = noTerms

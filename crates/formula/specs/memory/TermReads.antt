@@ -9,6 +9,7 @@ use Rattle.text.specs.Bytes.{Bytes, bytes, next}
 use Rattle.text.specs.Outcome.{done, refused}
 use Rattle.text.specs.Reading.{Reader, give, _>>=_, _>>_, word, readNumber, separated}
 use Rattle.text.specs.Problem.{Name}
+use Rattle.text.specs.memory.Found.{Taken}
 use Rattle.logic.specs.Formula.{Term, element, variable, termsOf}
 use Rattle.logic.specs.Reading.{readVariable, readTerm}
 use Rattle.logic.specs.Names.{termKnown, termsKnown, termClosed, termsClosed}
@@ -24,13 +25,11 @@ use Rattle.formula.specs.declared.term.TermsRead.{TermsRead}
 use Rattle.formula.specs.declared.term.TermsRead.the-variants as terms
 
 -- a name stands at a place
-pub record WordFound (reader : Reader Name) (text : Bytes) (at next : ℕ) : Type 0 where
-  pub is : reader (drop at text) ≡ done (take (next - at) (drop at text), drop next text)
-  pub after : at < next
-  pub within : next ≤ length text
+abbrev pub NameTaken : Reader Name → Bytes → ℕ → ℕ → Type 0
+NameTaken reader text at next = Taken reader text at (take (next - at) (drop at text)) next
 
 abbrev pub ToldWord : Reader Name → Bytes → ℕ → Behind → Type 0
-ToldWord reader text at (behind.At next) = WordFound reader text at next
+ToldWord reader text at (behind.At next) = NameTaken reader text at next
 ToldWord reader text at behind.Malformed = reader (drop at text) ≡ refused 5
 
 unfoldable pub readElement : Reader Term

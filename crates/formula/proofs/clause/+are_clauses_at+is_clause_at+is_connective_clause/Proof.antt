@@ -107,7 +107,7 @@ are-clauses-at-returns : (t : ℕ) → are-clauses-at-lts.Need-returns (are-clau
 are-clauses-at-returns t c =
     let a = c .before .before .before .before .before .args in
     let l = c .before .before .before .loop in
-    sym (l .inv .1 ∙ all-stop (a .work .now) (l .i) (l .pending) (c .before .before .loop-test .taken) (clauseAt (a .table) (a .levels)) (sym (c .before .is-clause-at .ensures) ∙ not-true _ (c .if1 .taken)))
+    sym (l .inv .1 ∙ all-stop (clauseAt (a .table) (a .levels)) (a .work .now) (l .i) (l .pending) (c .before .before .loop-test .taken) (sym (c .before .is-clause-at .ensures) ∙ not-true _ (c .if1 .taken)))
 
 are-clauses-at-loop-again : (t : ℕ) → are-clauses-at-lts.Need-loop-again (are-clauses-at-calls t) (are-clauses-at-at t) are-clauses-at.Post are-clauses-at-Inv-loop are-clauses-at-μ-loop
 are-clauses-at-loop-again t c =
@@ -115,7 +115,7 @@ are-clauses-at-loop-again t c =
     let l = c .before .before .before .before .loop in
     let t = clauseAt (a .table) (a .levels) in (
       c .past .ensures .1,
-      l .inv .1 ∙ all-more (a .work .now) (l .i) (l .pending) (c .before .before .before .loop-test .taken) t (sym (c .before .before .is-clause-at .ensures) ∙ not-false _ (c .before .if1 .left))
+      l .inv .1 ∙ all-more t (a .work .now) (l .i) (l .pending) (c .before .before .before .loop-test .taken) (sym (c .before .before .is-clause-at .ensures) ∙ not-false _ (c .before .if1 .left))
           ∙ ap (λ (j : ℕ). allAt t (l .pending - 1) (drop j (a .work .now))) (sym (c .past .ensures .0)),
     )
 

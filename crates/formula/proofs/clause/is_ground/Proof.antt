@@ -5,7 +5,7 @@ use mathlib.Core.Path.{sym, ap, _∙_}
 use mathlib.Core.Bool.{Bool, _&&_}
 use lib.ListN.{drop}
 use borrow.Author.Tests.{not-true, not-false}
-use Rattle.formula.specs.memory.Clauses.{elementsAt}
+use Rattle.formula.specs.memory.Kinds.{elementsAt}
 use Rattle.formula.proofs.clause.is_ground.Statement.{statement}
 use Rattle.formula.proofs.clause.is_ground.Tie as tie
 

@@ -4,7 +4,7 @@ use borrow.Author.Needs.{needs}
 use mathlib.Core.Path.{ap, ap₂, _∙_}
 use mathlib.Core.Bool.{true, false}
 use lib.ListN.{drop}
-use Rattle.formula.specs.memory.Deciding.{junctionFit, negationFit, quantifierFit, predicateFit, propositionFit}
+use Rattle.formula.specs.memory.Deciding.{junctionFit, negationFit, quantifierFit, evaluationFit}
 use Rattle.formula.specs.declared.word.Kind.{Kind}
 use Rattle.formula.proofs.memory.Deciding.{kind-here, kind-next}
 use Rattle.formula.proofs.decide.rule_fit.Statement.{statement}
@@ -31,15 +31,15 @@ returns-4 : tie.Need-returns-4
 returns-4 c =
     let a = c .before .before .before .before .before .before .before .args in
     rw (c .before .enum-told4 .given .1)
-    (c .predicate-fit .ensures
-    ∙ ap (λ (k : Kind). predicateFit (a .table) (a .rows .now) k (drop (a .at) (a .work .now))) (kind-here (a .work .now) (a .at) (c .before .before .before .kind-of .ensures) (c .before .before .before .before .peek .ensures)))
+    (c .evaluation-fit .ensures
+    ∙ ap (λ (k : Kind). evaluationFit (a .table) (a .rows .now) true k (drop (a .at) (a .work .now))) (kind-here (a .work .now) (a .at) (c .before .before .before .kind-of .ensures) (c .before .before .before .before .peek .ensures)))
 
 returns-5 : tie.Need-returns-5
 returns-5 c =
     let a = c .before .before .before .before .before .before .before .args in
     rw (c .before .enum-told5 .given .1)
-    (c .proposition-fit .ensures
-    ∙ ap (λ (k : Kind). propositionFit (a .table) (a .rows .now) k (drop (a .at) (a .work .now))) (kind-here (a .work .now) (a .at) (c .before .before .before .kind-of .ensures) (c .before .before .before .before .peek .ensures)))
+    (c .evaluation-fit2 .ensures
+    ∙ ap (λ (k : Kind). evaluationFit (a .table) (a .rows .now) false k (drop (a .at) (a .work .now))) (kind-here (a .work .now) (a .at) (c .before .before .before .kind-of .ensures) (c .before .before .before .before .peek .ensures)))
 
 returns-6 : tie.Need-returns-6
 returns-6 c =

@@ -10,12 +10,12 @@ use Rattle.formula.proofs.decide.value_fit.Tie as tie
 returns : tie.Need-returns
 returns c =
     let a = c .before .before .before .before .args in
-    value-misfit (a .table) (a .rows .now) (a .work .now) (a .at) (a .terms) (sym (c .before .elements-only .ensures) ∙ not-true _ (c .if1 .taken))
+    value-misfit (a .table) (a .rows .now) (a .work .now) (a .at) (a .terms) (sym (c .before .are-elements .ensures) ∙ not-true _ (c .if1 .taken))
 
 returns-2 : tie.Need-returns-2
 returns-2 c =
     let a = c .before .before .before .before .before .args in
-    value-fits (a .table) (a .rows .now) (a .work .now) (a .at) (a .terms) _ (sym (c .before .before .elements-only .ensures) ∙ not-false _ (c .before .if1 .left)) (c .evaluate .ensures)
+    value-fits (a .table) (a .rows .now) (a .work .now) (a .at) (a .terms) _ (sym (c .before .before .are-elements .ensures) ∙ not-false _ (c .before .if1 .left)) (c .evaluate .ensures)
 
 pub value-fit-spec : {M : Type 1} → statement M
 value-fit-spec =

@@ -26,36 +26,36 @@ sub-size c =
     let w = word-done (readName 5) (a .text .now) (a .at) (c .before .before .before .before .before .before .before .before .before .before .before .predicate-end .result) (c .before .before .before .before .before .before .before .before .before .before .before .predicate-end .ensures) (c .before .before .before .before .before .before .before .before .before .end .given .0 .0) (c .before .before .before .before .before .before .before .before .before .end .given .1) in
     omega (arith, w .after)
 
-cast-put : tie.Need-cast-put
-cast-put c =
+cast-set-word : tie.Need-cast-set-word
+cast-set-word c =
     let a = c .before .before .before .before .before .before .before .before .before .before .before .before .before .before .before .before .before .args in
     let f = terms-done (a .text .now) (a .table .domain) (boundIn (a .text .now) (a .scope)) readTermList (c .before .before .before .before .before .before .before .before .before .before .before .end .given .0 .0) (memory (a .names .now) (a .work .now)) (a .to + 1) _ (c .before .before .before .before .before .before .before .read-arguments .result) (c .before .before .before .before .before .before .before .read-arguments .ensures) (c .before .before .before .next .given .0 .0) (c .before .before .before .next .given .0 .1 .0) (c .before .before .before .next .given .0 .1 .1 .0) (c .before .before .before .next .given .1) in
     let p = position-table (a .problem .now) (a .table) (take (c .before .before .before .before .before .before .before .before .before .before .before .end .given .0 .0 - a .at) (drop (a .at) (a .text .now))) in
     omega (arith, f .after, f .within, c .before .find .ensures)
 
-mul-put : tie.Need-mul-put
-mul-put c =
+mul-set-word : tie.Need-mul-set-word
+mul-set-word c =
     let a = c .before .before .before .before .before .before .before .before .before .before .before .before .before .before .before .before .before .args in
     let f = terms-done (a .text .now) (a .table .domain) (boundIn (a .text .now) (a .scope)) readTermList (c .before .before .before .before .before .before .before .before .before .before .before .end .given .0 .0) (memory (a .names .now) (a .work .now)) (a .to + 1) _ (c .before .before .before .before .before .before .before .read-arguments .result) (c .before .before .before .before .before .before .before .read-arguments .ensures) (c .before .before .before .next .given .0 .0) (c .before .before .before .next .given .0 .1 .0) (c .before .before .before .next .given .0 .1 .1 .0) (c .before .before .before .next .given .1) in
     let p = position-table (a .problem .now) (a .table) (take (c .before .before .before .before .before .before .before .before .before .before .before .end .given .0 .0 - a .at) (drop (a .at) (a .text .now))) in
     omega (arith, f .after, f .within, c .before .find .ensures)
 
-add-put : tie.Need-add-put
-add-put c =
+add-set-word : tie.Need-add-set-word
+add-set-word c =
     let a = c .before .before .before .before .before .before .before .before .before .before .before .before .before .before .before .before .before .args in
     let f = terms-done (a .text .now) (a .table .domain) (boundIn (a .text .now) (a .scope)) readTermList (c .before .before .before .before .before .before .before .before .before .before .before .end .given .0 .0) (memory (a .names .now) (a .work .now)) (a .to + 1) _ (c .before .before .before .before .before .before .before .read-arguments .result) (c .before .before .before .before .before .before .before .read-arguments .ensures) (c .before .before .before .next .given .0 .0) (c .before .before .before .next .given .0 .1 .0) (c .before .before .before .next .given .0 .1 .1 .0) (c .before .before .before .next .given .1) in
     let p = position-table (a .problem .now) (a .table) (take (c .before .before .before .before .before .before .before .before .before .before .before .end .given .0 .0 - a .at) (drop (a .at) (a .text .now))) in
     omega (arith, f .after, f .within, c .before .find .ensures)
 
-mul-put-2 : tie.Need-mul-put-2
-mul-put-2 c =
+mul-set-word-2 : tie.Need-mul-set-word-2
+mul-set-word-2 c =
     let a = c .before .before .before .before .before .before .before .before .before .before .before .before .before .before .before .before .before .args in
     let f = terms-done (a .text .now) (a .table .domain) (boundIn (a .text .now) (a .scope)) readTermList (c .before .before .before .before .before .before .before .before .before .before .before .end .given .0 .0) (memory (a .names .now) (a .work .now)) (a .to + 1) _ (c .before .before .before .before .before .before .before .read-arguments .result) (c .before .before .before .before .before .before .before .read-arguments .ensures) (c .before .before .before .next .given .0 .0) (c .before .before .before .next .given .0 .1 .0) (c .before .before .before .next .given .0 .1 .1 .0) (c .before .before .before .next .given .1) in
     let p = position-table (a .problem .now) (a .table) (take (c .before .before .before .before .before .before .before .before .before .before .before .end .given .0 .0 - a .at) (drop (a .at) (a .text .now))) in
     omega (arith, f .after, f .within, c .before .find .ensures)
 
-add-put-2 : tie.Need-add-put-2
-add-put-2 c =
+add-set-word-2 : tie.Need-add-set-word-2
+add-set-word-2 c =
     let a = c .before .before .before .before .before .before .before .before .before .before .before .before .before .before .before .before .before .args in
     let f = terms-done (a .text .now) (a .table .domain) (boundIn (a .text .now) (a .scope)) readTermList (c .before .before .before .before .before .before .before .before .before .before .before .end .given .0 .0) (memory (a .names .now) (a .work .now)) (a .to + 1) _ (c .before .before .before .before .before .before .before .read-arguments .result) (c .before .before .before .before .before .before .before .read-arguments .ensures) (c .before .before .before .next .given .0 .0) (c .before .before .before .next .given .0 .1 .0) (c .before .before .before .next .given .0 .1 .1 .0) (c .before .before .before .next .given .1) in
     let p = position-table (a .problem .now) (a .table) (take (c .before .before .before .before .before .before .before .before .before .before .before .end .given .0 .0 - a .at) (drop (a .at) (a .text .now))) in
@@ -70,7 +70,7 @@ add-t31 c =
 returns : tie.Need-returns
 returns c =
     let a = c .before .before .before .before .before .before .before .before .before .before .before .before .before .before .before .before .before .before .before .before .before .args in
-    rw (c .before .before .before .put .ensures, c .atom-facts .ensures, c .before .before .before .before .before .find .ensures)
+    rw (c .before .before .before .set-word .ensures, c .atom-facts .ensures, c .before .before .before .before .before .find .ensures)
     (atom-found (settingOf (a .text .now) (a .scope) (a .problem .now) (a .table)) (a .at) (memory (a .names .now) (a .work .now)) (a .to) (c .before .before .before .before .before .before .before .before .before .before .before .before .before .before .before .end .given .0 .0) (word-done (readName 5) (a .text .now) (a .at) (c .before .before .before .before .before .before .before .before .before .before .before .before .before .before .before .before .before .predicate-end .result) (c .before .before .before .before .before .before .before .before .before .before .before .before .before .before .before .before .before .predicate-end .ensures) (c .before .before .before .before .before .before .before .before .before .before .before .before .before .before .before .end .given .0 .0) (c .before .before .before .before .before .before .before .before .before .before .before .before .before .before .before .end .given .1)) (a .table .domain) _ _ _ _ _ (domain-table (a .problem .now) (a .table)) (terms-done (a .text .now) (a .table .domain) (boundIn (a .text .now) (a .scope)) readTermList (c .before .before .before .before .before .before .before .before .before .before .before .before .before .before .before .end .given .0 .0) (memory (a .names .now) (a .work .now)) (a .to + 1) _ (c .before .before .before .before .before .before .before .before .before .before .before .read-arguments .result) (c .before .before .before .before .before .before .before .before .before .before .before .read-arguments .ensures) (c .before .before .before .before .before .before .before .next .given .0 .0) (c .before .before .before .before .before .before .before .next .given .0 .1 .0) (c .before .before .before .before .before .before .before .next .given .0 .1 .1 .0) (c .before .before .before .before .before .before .before .next .given .1)))
 
 returns-2 : tie.Need-returns-2
@@ -96,11 +96,11 @@ read-atom-spec =
     (λ c. search needs)
     sub-size
     (λ c κs. search needs)
-    cast-put
-    mul-put
-    add-put
-    mul-put-2
-    add-put-2
+    cast-set-word
+    mul-set-word
+    add-set-word
+    mul-set-word-2
+    add-set-word-2
     (λ c κs. search needs)
     add-t31
     (λ c κs. search needs)

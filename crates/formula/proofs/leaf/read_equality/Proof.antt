@@ -22,7 +22,7 @@ returns-2 : tie.Need-returns-2
 returns-2 c =
     let a = c .before .before .before .before .before .before .before .before .before .before .before .before .before .before .before .before .args in
     λ P index d.
-    rw (c .before .before .before .put .ensures, c .simple-facts .ensures)
+    rw (c .before .before .before .set-word .ensures, c .simple-facts .ensures)
     (equality-found (a .text .now) (boundIn (a .text .now) (a .scope)) P index (a .domain) d (a .at) (memory (a .names .now) (a .work .now)) (a .to) _ _ _ _ _
     (terms-done (a .text .now) (a .domain) (boundIn (a .text .now) (a .scope)) (closedUpTo 1) (a .at) (memory (a .names .now) (a .work .now)) (a .to + 1) _ (c .before .before .before .before .before .before .before .before .before .before .before .closed-terms .result) (c .before .before .before .before .before .before .before .before .before .before .before .closed-terms .ensures) (c .before .before .before .before .before .before .before .next .given .0 .0) (c .before .before .before .before .before .before .before .next .given .0 .1 .0) (c .before .before .before .before .before .before .before .next .given .0 .1 .1 .0) (c .before .before .before .before .before .before .before .next .given .1))
     (c .before .before .before .before .before .if1 .left))

@@ -5,12 +5,12 @@ use native.Mathlib.Omega.{arith}
 use Prim.Native.Nat.{_+_}
 use mathlib.Core.Path.{sym, _∙_}
 use Rattle.text.specs.Bytes.{bytes}
+use Rattle.text.proofs.Found.{word-found}
 use Rattle.logic.specs.Reading.{readEquality, readAtom}
 use Rattle.formula.specs.memory.Entries.{settingOf, memory}
 use Rattle.formula.specs.memory.Signature.{signatureOf}
 use Rattle.formula.specs.memory.FormulaReads.{readLeaf}
 use Rattle.formula.proofs.memory.Signature.{domain-table}
-use Rattle.formula.proofs.memory.Lists.{begins-within}
 use Rattle.formula.proofs.memory.Leaves.{told-later, true-found, false-found, equality-behind, atom-behind}
 use Rattle.formula.proofs.leaf.read_leaf.Statement.{statement}
 use Rattle.formula.proofs.leaf.read_leaf.Tie as tie
@@ -18,19 +18,19 @@ use Rattle.formula.proofs.leaf.read_leaf.Tie as tie
 returns : tie.Need-returns
 returns c =
     let a = c .before .before .before .before .before .before .before .before .before .before .before .args in
-    rw (c .before .before .before .put .ensures, c .simple-facts .ensures)
+    rw (c .before .before .before .set-word .ensures, c .simple-facts .ensures)
     (true-found (settingOf (a .text .now) (a .scope) (a .problem .now) (a .table)) (a .at) (c .before .before .before .before .before .before .before .before .before .before .before .pre .0) (a .names .now) (a .work .now) (a .to) (sym (c .before .before .before .before .before .before .begins-at .ensures) ∙ c .before .before .before .before .before .if1 .taken))
 
 returns-2 : tie.Need-returns-2
 returns-2 c =
     let a = c .before .before .before .before .before .before .before .before .before .before .before .before .before .before .args in
-    rw (c .before .before .before .put2 .ensures, c .simple-facts2 .ensures)
+    rw (c .before .before .before .set-word2 .ensures, c .simple-facts2 .ensures)
     (false-found (settingOf (a .text .now) (a .scope) (a .problem .now) (a .table)) (a .at) (c .before .before .before .before .before .before .before .before .before .before .before .before .before .before .pre .0) (a .names .now) (a .work .now) (a .to) (sym (c .before .before .before .before .before .before .before .before .before .begins-at .ensures) ∙ c .before .before .before .before .before .before .before .before .if1 .left) (sym (c .before .before .before .before .before .before .begins-at2 .ensures) ∙ c .before .before .before .before .before .if2 .taken))
 
 read-equality-requires : tie.Need-read-equality-requires
 read-equality-requires c κs =
     let a = c .before .before .before .before .before .before .before .before .before .before .before .before .before .before .args in
-    let h = begins-within (bytes "=(") (a .text .now) (a .at) (c .before .before .before .before .before .before .before .before .before .before .before .before .before .before .pre .0) (sym (c .before .before .before .begins-at3 .ensures) ∙ c .before .before .if3 .taken) in
+    let h = word-found (a .text .now) (a .at) (bytes "=(") (c .before .before .before .before .before .before .before .before .before .before .before .before .before .before .pre .0) (sym (c .before .before .before .begins-at3 .ensures) ∙ c .before .before .if3 .taken) .within in
     (h, omega arith, omega arith, omega arith)
 
 returns-3 : tie.Need-returns-3

@@ -56,7 +56,7 @@ use Rattle.formula.proofs.part_list.none_follow.Reads as none-follow-re
 use Rattle.formula.proofs.part_list.parts_close.Reads as parts-close-reads
 use Rattle.formula.proofs.read.parts_to.Reads as parts-to-reads
 use Rattle.formula.proofs.read.read_to.Reads as read-to-reads
-use Rattle.formula.proofs.term.put.Reads as put-reads
+use Rattle.formula.proofs.store.set_word.Reads as set-word-reads
 use Rattle.formula.proofs.term.variable_end.Reads as variable-end-reads
 use Rattle.text.proofs.byte.begins_at.Reads as begins-at-reads
 use Rattle.text.proofs.byte.peek.Reads as peek-reads
@@ -148,7 +148,7 @@ read-quantifier-below t =
 
 -- what read-connective is told of what it calls, at the measure t
 abbrev read-connective-calls : ℕ → read-connective-lts.Claims
-read-connective-calls t = (none-follow-reads.Asked, none-follow-reads.Learnt, connective-word-reads.Asked, connective-word-reads.Learnt, put-reads.Asked, put-reads.Learnt, simple-facts-reads.Asked, simple-facts-reads.Learnt, connective-facts-reads.Asked, connective-facts-reads.Learnt, read-to-reads.Asked, read-to-reads.Learnt, further-parts-reads.Asked, further-parts-reads.Learnt, read-parts-below t, read-parts.Post, parts-close-reads.Asked, parts-close-reads.Learnt, close-size-reads.Asked, close-size-reads.Learnt)
+read-connective-calls t = (none-follow-reads.Asked, none-follow-reads.Learnt, connective-word-reads.Asked, connective-word-reads.Learnt, set-word-reads.Asked, set-word-reads.Learnt, simple-facts-reads.Asked, simple-facts-reads.Learnt, connective-facts-reads.Asked, connective-facts-reads.Learnt, read-to-reads.Asked, read-to-reads.Learnt, further-parts-reads.Asked, further-parts-reads.Learnt, read-parts-below t, read-parts.Post, parts-close-reads.Asked, parts-close-reads.Learnt, close-size-reads.Asked, close-size-reads.Learnt)
 
 -- what read-formula is told of what it calls, at the measure t
 abbrev read-formula-calls : ℕ → read-formula-lts.Claims
@@ -164,7 +164,7 @@ read-parts-calls t = (simple-facts-reads.Asked, simple-facts-reads.Learnt, read-
 
 -- what read-quantifier is told of what it calls, at the measure t
 abbrev read-quantifier-calls : ℕ → read-quantifier-lts.Claims
-read-quantifier-calls t = (variable-end-reads.Asked, variable-end-reads.Learnt, peek-reads.Asked, peek-reads.Learnt, list-name-reads.Asked, list-name-reads.Learnt, with-binding-reads.Asked, with-binding-reads.Learnt, read-guarded-below t, read-guarded.Post, quantifier-word-reads.Asked, quantifier-word-reads.Learnt, put-reads.Asked, put-reads.Learnt, quantifier-facts-reads.Asked, quantifier-facts-reads.Learnt, read-to-reads.Asked, read-to-reads.Learnt)
+read-quantifier-calls t = (variable-end-reads.Asked, variable-end-reads.Learnt, peek-reads.Asked, peek-reads.Learnt, list-name-reads.Asked, list-name-reads.Learnt, with-binding-reads.Asked, with-binding-reads.Learnt, read-guarded-below t, read-guarded.Post, quantifier-word-reads.Asked, quantifier-word-reads.Learnt, set-word-reads.Asked, set-word-reads.Learnt, quantifier-facts-reads.Asked, quantifier-facts-reads.Learnt, read-to-reads.Asked, read-to-reads.Learnt)
 
 read-connective-add-read-to : (t : ℕ) → read-connective-lts.Need-add-read-to (read-connective-calls t) (read-connective-at t) read-connective.Post
 read-connective-add-read-to t c =
@@ -174,7 +174,7 @@ read-connective-add-read-to t c =
 read-connective-returns : (t : ℕ) → read-connective-lts.Need-returns (read-connective-calls t) (read-connective-at t) read-connective.Post
 read-connective-returns t c =
     let a = c .before .before .before .before .before .before .before .before .before .before .before .before .before .args in
-    rw (c .read-to .ensures, c .before .before .before .before .before .put .ensures, c .before .before .before .before .before .before .connective-word .ensures, c .before .connective-facts .ensures, c .before .before .simple-facts .ensures)
+    rw (c .read-to .ensures, c .before .before .before .before .before .set-word .ensures, c .before .before .before .before .before .before .connective-word .ensures, c .before .connective-facts .ensures, c .before .before .simple-facts .ensures)
     (connective-none (settingOf (a .text .now) (a .scope) (a .problem .now) (a .table)) (readFormula (a .levels)) (connectiveOf (a .sign)) (a .at) (sym (c .before .before .before .before .before .before .before .before .before .none-follow .ensures) ∙ c .before .before .before .before .before .before .before .before .if1 .taken) (a .names .now) (a .work .now) (a .to))
 
 read-connective-returns-2 : (t : ℕ) → read-connective-lts.Need-returns-2 (read-connective-calls t) (read-connective-at t) read-connective.Post
@@ -210,7 +210,7 @@ read-connective-add-read-to-2 t c =
 read-connective-returns-3 : (t : ℕ) → read-connective-lts.Need-returns-3 (read-connective-calls t) (read-connective-at t) read-connective.Post
 read-connective-returns-3 t c =
     let a = c .before .before .before .before .before .before .before .before .before .before .before .before .before .before .before .before .before .before .before .before .before .before .before .before .args in
-    rw (c .read-to2 .ensures, c .before .before .before .before .before .put2 .ensures, c .before .before .before .before .before .before .connective-word2 .ensures, c .before .connective-facts2 .ensures, c .before .before .close-size .ensures .0)
+    rw (c .read-to2 .ensures, c .before .before .before .before .before .set-word2 .ensures, c .before .before .before .before .before .before .connective-word2 .ensures, c .before .connective-facts2 .ensures, c .before .before .close-size .ensures .0)
     (connective-found (settingOf (a .text .now) (a .scope) (a .problem .now) (a .table)) (readFormula (a .levels)) (connectiveOf (a .sign)) (a .at) (shrinks-formula (a .levels)) (sym (c .before .before .before .before .before .before .before .before .before .before .before .before .before .before .before .before .before .before .before .before .none-follow .ensures) ∙ c .before .before .before .before .before .before .before .before .before .before .before .before .before .before .before .before .before .before .before .if1 .left) (c .before .before .before .before .before .before .before .before .before .before .before .before .before .before .before .before .before .before .further-parts .result) (c .before .before .before .before .before .before .before .before .before .before .before .before .before .before .before .before .before .before .further-parts .ensures) (memory (a .names .now) (a .work .now)) (a .to) (c .before .before .before .before .before .before .before .before .before .before .before .next .given .0 .0) (c .before .before .before .before .before .before .before .before .before .before .before .next .given .0 .1 .0) (c .before .before .before .before .before .before .before .before .before .before .before .next .given .0 .1 .1 .0) (c .before .before .before .before .before .before .before .before .before .before .before .next .given .0 .1 .1 .1 .0) _ _ (parts-done (upTo (c .before .before .before .before .before .before .before .before .before .before .before .before .before .before .before .before .before .before .further-parts .result) (readFormula (a .levels))) (settingOf (a .text .now) (a .scope) (a .problem .now) (a .table)) (a .at) (memory (a .names .now) (a .work .now)) (a .to + 1) _ (c .before .before .before .before .before .before .before .before .before .before .before .before .before .before .before .read-parts .result) (c .before .before .before .before .before .before .before .before .before .before .before .before .before .before .before .read-parts .ensures) (c .before .before .before .before .before .before .before .before .before .before .before .next .given .0 .0) (c .before .before .before .before .before .before .before .before .before .before .before .next .given .0 .1 .0) (c .before .before .before .before .before .before .before .before .before .before .before .next .given .0 .1 .1 .0) (c .before .before .before .before .before .before .before .before .before .before .before .next .given .0 .1 .1 .1 .0) (c .before .before .before .before .before .before .before .before .before .before .before .next .given .1)) (sym (c .before .before .before .before .before .before .before .before .before .parts-close .ensures) ∙ not-false _ (c .before .before .before .before .before .before .before .before .if2 .left)))
 
 read-connective-returns-4 : (t : ℕ) → read-connective-lts.Need-returns-4 (read-connective-calls t) (read-connective-at t) read-connective.Post
@@ -457,7 +457,7 @@ read-quantifier-quantifier-facts-requires t c κs =
 read-quantifier-returns-2 : (t : ℕ) → read-quantifier-lts.Need-returns-2 (read-quantifier-calls t) (read-quantifier-at t) read-quantifier.Post
 read-quantifier-returns-2 t c =
     let a = c .before .before .before .before .before .before .before .before .before .before .before .before .before .before .before .before .before .before .before .before .before .before .before .before .before .before .before .args in
-    rw (c .read-to .ensures, c .before .before .before .before .put .ensures, c .before .before .before .before .before .quantifier-word .ensures, c .before .quantifier-facts .ensures)
+    rw (c .read-to .ensures, c .before .before .before .before .set-word .ensures, c .before .before .before .before .before .quantifier-word .ensures, c .before .quantifier-facts .ensures)
     (quantifier-found (settingOf (a .text .now) (a .scope) (a .problem .now) (a .table)) (readFormula (a .levels)) (sideOf (a .every)) (a .at) (c .before .before .before .before .before .before .before .before .before .before .before .before .before .before .before .before .before .before .before .before .before .end .given .0 .0) (word-done readVariable (a .text .now) (a .at) (c .before .before .before .before .before .before .before .before .before .before .before .before .before .before .before .before .before .before .before .before .before .before .before .variable-end .result) (c .before .before .before .before .before .before .before .before .before .before .before .before .before .before .before .before .before .before .before .before .before .before .before .variable-end .ensures) (c .before .before .before .before .before .before .before .before .before .before .before .before .before .before .before .before .before .before .before .before .before .end .given .0 .0) (c .before .before .before .before .before .before .before .before .before .before .before .before .before .before .before .before .before .before .before .before .before .end .given .1)) (sym (c .before .before .before .before .before .before .before .before .before .before .before .before .before .before .before .before .before .before .before .peek .ensures) ∙ c .before .before .before .before .before .before .before .before .before .before .before .before .before .before .before .before .before .before .if1 .left) (boundIn (a .text .now) (c .before .before .before .before .before .before .before .before .before .before .before .before .before .before .before .with-binding .result)) (c .before .before .before .before .before .before .before .before .before .before .before .before .before .before .before .with-binding .ensures .is (a .text .now)) (a .names .now) _ (a .work .now) (a .to) (c .before .before .before .before .before .before .before .before .before .before .before .before .before .before .before .before .list-name .result) (c .before .before .before .before .before .before .before .before .before .before .before .before .before .before .before .before .list-name .ensures) (c .before .before .before .before .before .before .before .before .next .given .0 .0) (c .before .before .before .before .before .before .before .before .next .given .0 .1 .0) (c .before .before .before .before .before .before .before .before .next .given .0 .1 .1 .0) (c .before .before .before .before .before .before .before .before .next .given .0 .1 .1 .1 .0) _ _ (guarded-done (readGuarded (readFormula (a .levels))) (settingOf (a .text .now) (c .before .before .before .before .before .before .before .before .before .before .before .before .before .before .before .with-binding .result) (a .problem .now) (a .table)) (c .before .before .before .before .before .before .before .before .before .before .before .before .before .before .before .before .before .before .before .before .before .end .given .0 .0 + 1) _ (a .to + 1) _ (c .before .before .before .before .before .before .before .before .before .before .before .before .read-guarded .result) (c .before .before .before .before .before .before .before .before .before .before .before .before .read-guarded .ensures) (c .before .before .before .before .before .before .before .before .next .given .0 .0) (c .before .before .before .before .before .before .before .before .next .given .0 .1 .0) (c .before .before .before .before .before .before .before .before .next .given .0 .1 .1 .0) (c .before .before .before .before .before .before .before .before .next .given .0 .1 .1 .1 .0) (c .before .before .before .before .before .before .before .before .next .given .1)))
 
 read-quantifier-returns-3 : (t : ℕ) → read-quantifier-lts.Need-returns-3 (read-quantifier-calls t) (read-quantifier-at t) read-quantifier.Post

@@ -21,26 +21,26 @@ abbrev μ-loop : tie.MeasureT-loop
 loop-holds : tie.Need-loop-holds Inv-loop μ-loop
 loop-holds c =
     let a = c .before .before .before .args in
-    (omega arith, declared-first (a .problem .now) (a .table) (a .name .now) (c .predicate-count .result) (a .arity) (c .predicate-count .ensures))
+    (omega arith, declared-first (a .problem .now) (a .table) (a .name .now) (c .larger .result) (a .arity) (c .larger .ensures))
 
 returns : tie.Need-returns Inv-loop μ-loop
 returns c =
     let a = c .before .before .before .before .before .before .before .args in
     let l = c .before .before .before .loop in
-    sym (l .inv .1 ∙ declared-here (tablePredicate (a .problem .now) (a .table)) (l .i) (a .name .now) (a .arity) (c .before .before .before .before .predicate-count .result - l .i) (omega arith) (sym (c .before .is-predicate .ensures) ∙ c .if1 .taken))
+    sym (l .inv .1 ∙ declared-here (tablePredicate (a .problem .now) (a .table)) (l .i) (a .name .now) (a .arity) (c .before .before .before .before .larger .result - l .i) (omega arith) (sym (c .before .is-predicate .ensures) ∙ c .if1 .taken))
 
 loop-again : tie.Need-loop-again Inv-loop μ-loop
 loop-again c =
     let a = c .before .before .before .before .before .before .before .args in
     let l = c .before .before .before .loop in
-    let e : c .before .before .before .before .predicate-count .result - l .i - 1 ≡ c .before .before .before .before .predicate-count .result - (l .i + 1) = omega arith in
-    (omega arith, l .inv .1 ∙ declared-next (tablePredicate (a .problem .now) (a .table)) (l .i) (a .name .now) (a .arity) (c .before .before .before .before .predicate-count .result - l .i) (omega arith) (sym (c .before .is-predicate .ensures) ∙ c .if1 .left) ∙ rw e)
+    let e : c .before .before .before .before .larger .result - l .i - 1 ≡ c .before .before .before .before .larger .result - (l .i + 1) = omega arith in
+    (omega arith, l .inv .1 ∙ declared-next (tablePredicate (a .problem .now) (a .table)) (l .i) (a .name .now) (a .arity) (c .before .before .before .before .larger .result - l .i) (omega arith) (sym (c .before .is-predicate .ensures) ∙ c .if1 .left) ∙ rw e)
 
 returns-2 : tie.Need-returns-2 Inv-loop μ-loop
 returns-2 c =
     let a = c .before .before .before .before .before .args in
     let l = c .before .loop in
-    sym (l .inv .1 ∙ declared-none (tablePredicate (a .problem .now) (a .table)) (l .i) (a .name .now) (a .arity) (c .before .before .predicate-count .result - l .i) (omega arith))
+    sym (l .inv .1 ∙ declared-none (tablePredicate (a .problem .now) (a .table)) (l .i) (a .name .now) (a .arity) (c .before .before .larger .result - l .i) (omega arith))
 
 pub is-declared-spec : {M : Type 1} → statement M
 is-declared-spec =

@@ -3,9 +3,9 @@
 use borrow.Author.Needs.{needs}
 use native.Mathlib.Omega.{arith}
 use mathlib.Core.Path.{sym, _∙_}
+use Rattle.text.proofs.FoundBytes.{byte-found}
 use Rattle.formula.specs.memory.Bindings.{boundIn}
 use Rattle.formula.specs.memory.Entries.{memory}
-use Rattle.formula.proofs.memory.Lists.{byte-within}
 use Rattle.formula.proofs.memory.TermReads.{arguments-none, arguments-some}
 use Rattle.formula.proofs.term.read_arguments.Statement.{statement}
 use Rattle.formula.proofs.term.read_arguments.Tie as tie
@@ -17,7 +17,7 @@ returns c =
 
 closed-terms-requires : tie.Need-closed-terms-requires
 closed-terms-requires c κs =
-    let h = byte-within (c .before .before .before .before .before .before .args .text .now) (c .before .before .before .before .before .before .args .at) 40 (sym (c .before .before .before .peek .ensures) ∙ c .before .before .if1 .left) (omega arith) in
+    let h = byte-found (c .before .before .before .before .before .before .args .text .now) (c .before .before .before .before .before .before .args .at) 40 (omega arith) (sym (c .before .before .before .peek .ensures) ∙ c .before .before .if1 .left) .within in
     search needs
 
 returns-2 : tie.Need-returns-2

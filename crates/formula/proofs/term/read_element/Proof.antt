@@ -8,13 +8,13 @@ use Rattle.formula.proofs.memory.TermReads.{element-found, element-larg
 use Rattle.formula.proofs.term.read_element.Statement.{statement}
 use Rattle.formula.proofs.term.read_element.Tie as tie
 
-mul-put : tie.Need-mul-put
-mul-put c =
+mul-set-word : tie.Need-mul-set-word
+mul-set-word c =
     let f = subst (ToldNumber (c .before .before .before .before .before .before .before .args .text .now) (c .before .before .before .before .before .before .before .args .at)) (c .before .before .next .given .1) (c .before .before .before .before .number-at .ensures) in
     omega (arith, f .small)
 
-add-put : tie.Need-add-put
-add-put c =
+add-set-word : tie.Need-add-set-word
+add-set-word c =
     let f = subst (ToldNumber (c .before .before .before .before .before .before .before .args .text .now) (c .before .before .before .before .before .before .before .args .at)) (c .before .before .next .given .1) (c .before .before .before .before .number-at .ensures) in
     omega (arith, f .small)
 
@@ -22,7 +22,7 @@ returns : tie.Need-returns
 returns c =
     let a = c .before .before .before .before .before .before .before .before .before .before .before .args in
     λ bound names.
-    rw (c .before .before .before .put .ensures, c .is-element .ensures)
+    rw (c .before .before .before .set-word .ensures, c .is-element .ensures)
     (element-found (a .text .now) (a .domain) bound (a .at) names (a .work .now) (a .to) (c .before .before .before .before .before .before .next .given .0 .1 .0) (c .before .before .before .before .before .before .next .given .0 .0) (subst (ToldNumber (a .text .now) (a .at)) (c .before .before .before .before .before .before .next .given .1) (c .before .before .before .before .before .before .before .before .number-at .ensures)))
 
 returns-2 : tie.Need-returns-2
@@ -41,8 +41,8 @@ read-element-spec =
     (tie.spec
     (λ c κs. search needs)
     (λ c. search needs)
-    mul-put
-    add-put
+    mul-set-word
+    add-set-word
     (λ c κs. search needs)
     (λ c κs. search needs)
     (λ c. search needs)

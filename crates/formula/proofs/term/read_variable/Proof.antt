@@ -20,17 +20,17 @@ list-name-requires c κs =
     let f = subst (ToldWord readVariable (c .before .before .before .before .before .before .before .args .text .now) (c .before .before .before .before .before .before .before .args .at)) (c .before .before .next .given .1) (c .before .before .before .before .variable-end .ensures) in
     (omega arith, omega (arith, f .within))
 
-mul-put : tie.Need-mul-put
-mul-put c = omega (arith, c .before .list-name .ensures .small)
+mul-set-word : tie.Need-mul-set-word
+mul-set-word c = omega (arith, c .before .list-name .ensures .small)
 
-add-put : tie.Need-add-put
-add-put c = omega (arith, c .before .list-name .ensures .small)
+add-set-word : tie.Need-add-set-word
+add-set-word c = omega (arith, c .before .list-name .ensures .small)
 
 returns : tie.Need-returns
 returns c =
     let a = c .before .before .before .before .before .before .before .before .before .before .before .before .before .args in
     λ n.
-    rw (c .before .before .before .put .ensures)
+    rw (c .before .before .before .set-word .ensures)
     (variable-entered (a .text .now) n (boundIn (a .text .now) (a .scope)) (a .at) (a .names .now) (a .work .now) (a .to) (c .before .before .before .before .before .before .before .before .next .given .0 .0) (c .before .before .before .before .before .list-name .result) _ (c .is-bound .result) (subst (ToldWord readVariable (a .text .now) (a .at)) (c .before .before .before .before .before .before .before .before .next .given .1) (c .before .before .before .before .before .before .before .before .before .before .variable-end .ensures)) (c .before .before .before .before .before .list-name .ensures) (c .is-bound .ensures))
 
 returns-2 : tie.Need-returns-2
@@ -46,8 +46,8 @@ read-variable-spec =
     (λ c. search needs)
     sub-size
     list-name-requires
-    mul-put
-    add-put
+    mul-set-word
+    add-set-word
     (λ c κs. search needs)
     (λ c κs. search needs)
     (λ c. search needs)

@@ -2,10 +2,9 @@
 -- Assumes nothing.
 use borrow.Author.Needs.{needs}
 use native.Mathlib.Omega.{arith}
-use Prim.Native.Nat.{ℕ, _+_, _≤_, _<_}
+use Prim.Native.Nat.{ℕ, _≤_, _<_}
 use mathlib.Core.Path.{ap, subst, _∙_}
-use lib.ListN.{drop}
-use Rattle.formula.specs.memory.Kinds.{skip, kindOf}
+use Rattle.formula.specs.memory.Kinds.{kindOf}
 use Rattle.formula.specs.memory.Paths.{subformulaCount}
 use Rattle.formula.proofs.memory.Paths.{below-inside, below-at, below-nowhere}
 use Rattle.formula.proofs.walk.down.Statement.{statement}
@@ -13,19 +12,18 @@ use Rattle.formula.proofs.walk.down.Tie as tie
 
 past-requires : tie.Need-past-requires
 past-requires c κs =
-    let a = c .before .before .before .before .before .before .args in
-    let d = c .before .before .subformula-count .ensures ∙ ap subformulaCount (c .before .before .before .kind-of .ensures ∙ ap kindOf (c .before .before .before .before .peek .ensures)) in
-    let within = subst (λ (n : ℕ). a .part < n) d (c .before .if1 .taken) in
+    let a = c .before .before .before .before .before .args in
+    let d = c .before .subformula-count .ensures ∙ ap subformulaCount (c .before .before .kind-of .ensures ∙ ap kindOf (c .before .before .before .peek .ensures)) in
+    let within = subst (λ (n : ℕ). a .part < n) d (c .if1 .taken) in
     let inside = below-inside (a .work .now) (a .at) (a .part) within in
-    (omega arith, omega arith, omega (arith, c .wide .ensures .1))
+    (omega arith, omega arith, search needs)
 
 returns : tie.Need-returns
 returns c =
-    let a = c .before .before .before .before .before .before .before .args in
-    let d = c .before .before .before .subformula-count .ensures ∙ ap subformulaCount (c .before .before .before .before .kind-of .ensures ∙ ap kindOf (c .before .before .before .before .before .peek .ensures)) in
-    let e = c .past .ensures .0 ∙ ap (λ (n : ℕ). a .at + 1 + skip (drop (a .at + 1) (a .work .now)) n) (c .before .wide .ensures .0) in
-    let within = subst (λ (n : ℕ). a .part < n) d (c .before .before .if1 .taken) in
-    (below-at (a .work .now) (a .at) (a .part) (c .past .result) within e, c .past .ensures .1)
+    let a = c .before .before .before .before .before .before .args in
+    let d = c .before .before .subformula-count .ensures ∙ ap subformulaCount (c .before .before .before .kind-of .ensures ∙ ap kindOf (c .before .before .before .before .peek .ensures)) in
+    let within = subst (λ (n : ℕ). a .part < n) d (c .before .if1 .taken) in
+    (below-at (a .work .now) (a .at) (a .part) (c .past .result) within (c .past .ensures .0), c .past .ensures .1)
 
 returns-2 : tie.Need-returns-2
 returns-2 c =
@@ -41,7 +39,6 @@ down-spec =
     (λ c κs. search needs)
     (λ c κs. search needs)
     (λ c. search needs)
-    (λ c κs. search needs)
     past-requires
     returns
     returns-2)

@@ -5,7 +5,7 @@ use native.Mathlib.Omega.{arith}
 use Prim.Native.Nat.{_+_, _-_, _*_, _≤_}
 use mathlib.Core.Path.{_≡_, refl, ap, _∙_}
 use lib.ListN.{length, drop}
-use Rattle.formula.specs.memory.Kinds.{skip, partCount}
+use Rattle.formula.specs.memory.Kinds.{skip}
 use Rattle.formula.proofs.memory.Kinds.{skip-none, skip-beyond, skip-turn}
 use Rattle.formula.proofs.walk.past.Statement.{statement}
 use Rattle.formula.proofs.walk.past.Tie as tie
@@ -29,11 +29,10 @@ returns c =
 
 loop-again : tie.Need-loop-again Inv-loop μ-loop
 loop-again c =
-    let a = c .before .before .before .before .before .before .before .before .args in
-    let l = c .before .before .before .before .before .before .loop in
-    let e = c .wide .ensures .0 ∙ c .before .part-count .ensures ∙ ap partCount (c .before .before .kind-of .ensures) in
-    let turn = skip-turn (a .work .now) (l .i) (l .pending) (c .before .before .before .before .if1 .left) (omega arith) in
-    (omega arith, omega arith, l .inv .2 ∙ rw e turn, omega (arith, c .wide .ensures .1))
+    let a = c .before .before .before .before .before .before .args in
+    let l = c .before .before .before .before .loop in
+    let turn = skip-turn (a .work .now) (l .i) (l .pending) (c .before .before .if1 .left) (omega arith) in
+    (omega arith, omega arith, l .inv .2 ∙ rw (c .parts-of .ensures .0) turn, omega (arith, c .parts-of .ensures .1))
 
 returns-2 : tie.Need-returns-2 Inv-loop μ-loop
 returns-2 c =
@@ -54,8 +53,6 @@ past-spec =
     (λ c. search needs)
     (λ c. search needs)
     (λ c. search needs)
-    (λ c κs. search needs)
-    (λ c κs. search needs)
     (λ c κs. search needs)
     (λ c. search needs)
     (λ c. search needs)

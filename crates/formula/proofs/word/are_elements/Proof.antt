@@ -1,18 +1,17 @@
--- `clause::are_elements` goes through terms up to the first that is no element. The invariant: the answer is that of the terms from here.
+-- `word::are_elements` goes through terms up to the first that is no element. The invariant: the answer is that of the terms from here.
 -- Assumes nothing.
 use borrow.Author.Needs.{needs}
 use native.Mathlib.Omega.{arith}
 use Prim.Native.Nat.{_+_, _≤_}
 use mathlib.Core.Path.{_≡_, refl, sym, _∙_}
 use lib.ListN.{drop}
-use Rattle.formula.specs.memory.Clauses.{elementsAt}
-use Rattle.formula.proofs.memory.Clauses.{elements-none, elements-more, elements-stop}
-use Rattle.formula.proofs.clause.are_elements.Statement.{statement}
-use Rattle.formula.proofs.clause.are_elements.Tie as tie
+use Rattle.formula.specs.memory.Kinds.{elementsAt}
+use Rattle.formula.proofs.memory.Kinds.{elements-none, elements-more, elements-stop}
+use Rattle.formula.proofs.word.are_elements.Statement.{statement}
+use Rattle.formula.proofs.word.are_elements.Tie as tie
 
 abbrev Inv-loop : tie.InvT-loop
-Inv-loop work at count i₀ pending₀ i pending =
-    (pending ≤ count) × (i + pending ≡ at + count) × (elementsAt count (drop at work) ≡ elementsAt pending (drop i work))
+Inv-loop work at count i₀ pending₀ i pending = (pending ≤ count) × (i + pending ≡ at + count) × (elementsAt count (drop at work) ≡ elementsAt pending (drop i work))
 
 abbrev μ-loop : tie.MeasureT-loop
 μ-loop work at count i₀ pending₀ i pending = pending
@@ -22,15 +21,13 @@ loop-holds c = (omega arith, refl, refl)
 
 returns : tie.Need-returns Inv-loop μ-loop
 returns c =
-    let a = c .before .before .before .before .before .args in
     let l = c .before .before .before .loop in
-    sym (l .inv .2 ∙ elements-stop (a .work .now) (l .i) (l .pending) (c .before .before .loop-test .taken) (rw (c .before .peek .ensures) at (c .if1 .taken)))
+    sym (l .inv .2 ∙ elements-stop (c .before .before .before .before .before .args .work .now) (l .i) (l .pending) (omega arith) (λ e. c .if1 .taken (rw (c .before .peek .ensures) e)))
 
 loop-again : tie.Need-loop-again Inv-loop μ-loop
 loop-again c =
-    let a = c .before .before .before .before .before .args in
     let l = c .before .before .before .loop in
-    (omega arith, omega arith, l .inv .2 ∙ elements-more (a .work .now) (l .i) (l .pending) (c .before .before .loop-test .taken) (rw (c .before .peek .ensures) at (c .if1 .left)))
+    (omega arith, omega arith, l .inv .2 ∙ elements-more (c .before .before .before .before .before .args .work .now) (l .i) (l .pending) (omega arith) (rw (c .before .peek .ensures) at (c .if1 .left)))
 
 returns-2 : tie.Need-returns-2 Inv-loop μ-loop
 returns-2 c =

@@ -1,10 +1,10 @@
--- `instance::parts_of` counts the parts of what a word starts.
+-- `word::parts_of` counts the parts of what a word starts.
 -- Assumes nothing.
 use borrow.Author.Needs.{needs}
 use mathlib.Core.Path.{ap, _∙_}
 use Rattle.formula.specs.memory.Kinds.{partCount}
-use Rattle.formula.proofs.instance.parts_of.Statement.{statement}
-use Rattle.formula.proofs.instance.parts_of.Tie as tie
+use Rattle.formula.proofs.word.parts_of.Statement.{statement}
+use Rattle.formula.proofs.word.parts_of.Tie as tie
 
 returns : tie.Need-returns
 returns c = (c .part-count .ensures ∙ ap partCount (c .before .kind-of .ensures), search needs)
