@@ -51,7 +51,7 @@ fn is_ground_atom_at(work: &[u32], at: usize, table: Table) -> bool
 }
 
 // Whether the formula at a place is a ground clause.
-pub fn is_clause_at(work: &[u32], at: usize, levels: usize, table: Table) -> bool
+fn is_clause_at(work: &[u32], at: usize, levels: usize, table: Table) -> bool
     requires { ⌜ (at ≤ length (now work)) × (length (now work) ≤ 16384) ⌝ }
     ensures { λ r. ⌜ r ≡ clauseAt table levels (drop at (now (work .entry))) ⌝ }
 {

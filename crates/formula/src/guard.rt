@@ -23,7 +23,7 @@ fn small(v: u8) -> u32
 }
 
 // The element that a term's word stands for.
-pub fn value_of(word: u32, values: [u8; 64]) -> u32
+fn value_of(word: u32, values: [u8; 64]) -> u32
     ensures { λ r. ⌜ (r ≡ valueOf (valued values) (termOf indexName word)) × (r < 256) ⌝ }
 {
     let payload = word / 16;
@@ -46,7 +46,7 @@ pub fn with_value(values: [u8; 64], variable: u32, v: u32) -> [u8; 64]
 }
 
 // The number of the row that terms stand for.
-pub fn row_of(work: &[u32], at: usize, terms: u32, values: [u8; 64]) -> u32
+fn row_of(work: &[u32], at: usize, terms: u32, values: [u8; 64]) -> u32
     requires { ⌜ at ≤ 16384 ⌝ }
     ensures { λ r. ⌜ r ≡ packed (valuesOf (valued values) (termsAt indexName (terms % 4) (drop at (now (work .entry))))) ⌝ }
 {
@@ -66,7 +66,7 @@ pub fn row_of(work: &[u32], at: usize, terms: u32, values: [u8; 64]) -> u32
     first + 256 * (second + 256 * third)
 }
 
-pub fn atom_holds(
+fn atom_holds(
     work: &[u32],
     at: usize,
     predicate: u32,
@@ -83,7 +83,7 @@ pub fn atom_holds(
 }
 
 // Whether two terms stand for the same element.
-pub fn equal_holds(work: &[u32], at: usize, values: [u8; 64]) -> bool
+fn equal_holds(work: &[u32], at: usize, values: [u8; 64]) -> bool
     requires { ⌜ at ≤ 16384 ⌝ }
     ensures { λ r. ⌜ r ≡ eqb (valueOf (valued values) (termOf indexName (getD (now (work .entry)) at 0))) (valueOf (valued values) (termOf indexName (getD (now (work .entry)) (at + 1) 0))) ⌝ }
 {
@@ -93,14 +93,14 @@ pub fn equal_holds(work: &[u32], at: usize, values: [u8; 64]) -> bool
 }
 
 // A part's value settles `&` if it is false, `|` if it is true.
-pub fn settles(every: bool, part: bool) -> bool
+fn settles(every: bool, part: bool) -> bool
     ensures { λ r. ⌜ r ≡ settledBy every part ⌝ }
 {
     if every { !part } else { part }
 }
 
 // Whether the first part's value settles a connective of one part or two.
-pub fn first_settles(sign: Sign, first: bool) -> bool
+fn first_settles(sign: Sign, first: bool) -> bool
     ensures { λ r. ⌜ r ≡ settledFirst sign first ⌝ }
 {
     match sign {
@@ -113,7 +113,7 @@ pub fn first_settles(sign: Sign, first: bool) -> bool
 }
 
 // A connective's value from two parts' values.
-pub fn connected(sign: Sign, first: bool, second: bool) -> bool
+fn connected(sign: Sign, first: bool, second: bool) -> bool
     ensures { λ r. ⌜ r ≡ connect (connectiveOf sign) (first ∷ second ∷ []) ⌝ }
 {
     match sign {
@@ -181,7 +181,7 @@ pub fn evaluate(
 }
 
 // A connective of the parts at a place.
-pub fn connective_holds(
+fn connective_holds(
     work: &[u32],
     at: usize,
     levels: usize,
@@ -204,7 +204,7 @@ pub fn connective_holds(
 }
 
 // A connective that goes by the first two parts.
-pub fn pair_holds(
+fn pair_holds(
     work: &[u32],
     at: usize,
     levels: usize,
@@ -226,7 +226,7 @@ pub fn pair_holds(
 }
 
 // One of the parts at a place; false, where there are not so many.
-pub fn part_holds(
+fn part_holds(
     work: &[u32],
     at: usize,
     levels: usize,
@@ -247,7 +247,7 @@ pub fn part_holds(
 }
 
 // `&` or `|` of the parts at a place.
-pub fn parts_hold(
+fn parts_hold(
     work: &[u32],
     at: usize,
     levels: usize,
@@ -274,7 +274,7 @@ pub fn parts_hold(
 }
 
 // A quantifier over the guard and the body at a place: elements in turn.
-pub fn each_holds(
+fn each_holds(
     work: &[u32],
     at: usize,
     levels: usize,
@@ -302,7 +302,7 @@ pub fn each_holds(
 }
 
 // One element: the body where the guard holds, and what changes nothing where it does not.
-pub fn element_holds(
+fn element_holds(
     work: &[u32],
     at: usize,
     levels: usize,

@@ -45,7 +45,7 @@ fn held_after(x: u32, held: usize, word: u32) -> usize
 }
 
 // Copies a range with an element for a variable.
-pub fn instance(work: &mut [u32], at: usize, end: usize, x: u32, v: u32, to: usize) -> usize
+fn instance(work: &mut [u32], at: usize, end: usize, x: u32, v: u32, to: usize) -> usize
     requires { ⌜ Behind (now work) at end to × (x < 268435456) × (v < 256) ⌝ }
     ensures { λ r. ⌜ Stores (now (work .entry)) to (wordsWith x v (slice at end (now (work .entry))) 0) r (now (work .exit)) ⌝ }
 {
@@ -80,7 +80,7 @@ fn instance_if(
 }
 
 // The copies for all elements, in ascending order.
-pub fn instances(
+fn instances(
     work: &mut [u32],
     at: usize,
     end: usize,

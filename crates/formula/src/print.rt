@@ -22,7 +22,7 @@ ghost use Rattle.formula.specs.memory.Cursor.{Prints};
 ghost use Rattle.formula.specs.memory.ClauseText.{elementOf, elementTexts, atomText, signOpening, signClosing, opening, closing, partTexts, clauseText, clauseLines};
 
 // The digits of a number.
-pub fn emit_number(n: u32, cursor: Cursor, claim: &[u8], store: bool, out: &mut [u8]) -> Cursor
+fn emit_number(n: u32, cursor: Cursor, claim: &[u8], store: bool, out: &mut [u8]) -> Cursor
     ensures { λ r. ⌜ Prints (now (claim .entry)) store (cursor, now (out .entry)) (decimal n) (r, now (out .exit)) ⌝ }
 {
     if n < 10 {
@@ -32,7 +32,7 @@ pub fn emit_number(n: u32, cursor: Cursor, claim: &[u8], store: bool, out: &mut 
     emit(last, b'0' + (n % 10) as u8, claim, store, out)
 }
 
-pub fn emit_truth(b: bool, cursor: Cursor, claim: &[u8], store: bool, out: &mut [u8]) -> Cursor
+fn emit_truth(b: bool, cursor: Cursor, claim: &[u8], store: bool, out: &mut [u8]) -> Cursor
     ensures { λ r. ⌜ Prints (now (claim .entry)) store (cursor, now (out .entry)) (truthText b) (r, now (out .exit)) ⌝ }
 {
     if b {
@@ -212,7 +212,7 @@ fn emit_closing(kind: Kind, cursor: Cursor, claim: &[u8], store: bool, out: &mut
 }
 
 // The clause at a place.
-pub fn emit_clause(
+fn emit_clause(
     work: &[u32],
     at: usize,
     levels: usize,

@@ -21,7 +21,7 @@ pub fn with_flag(flags: [bool; 64], variable: u32) -> [bool; 64]
     more
 }
 
-pub fn term_closed(word: u32, flags: [bool; 64]) -> bool
+fn term_closed(word: u32, flags: [bool; 64]) -> bool
     ensures { λ r. ⌜ r ≡ termClosed (flagged flags) (termOf indexName word) ⌝ }
 {
     if word % 16 == 12 {
@@ -31,7 +31,7 @@ pub fn term_closed(word: u32, flags: [bool; 64]) -> bool
     flags[x]
 }
 
-pub fn terms_closed(work: &[u32], at: usize, count: u32, flags: [bool; 64]) -> bool
+fn terms_closed(work: &[u32], at: usize, count: u32, flags: [bool; 64]) -> bool
     requires { ⌜ (at ≤ length (now work)) × (count ≤ 4) × (length (now work) ≤ 16384) ⌝ }
     ensures { λ r. ⌜ r ≡ termsClosedAt flags count (drop at (now (work .entry))) ⌝ }
 {
@@ -73,7 +73,7 @@ pub fn closed_at(work: &[u32], at: usize, levels: usize, flags: [bool; 64]) -> b
     }
 }
 
-pub fn parts_closed(work: &[u32], at: usize, levels: usize, count: u32, flags: [bool; 64]) -> bool
+fn parts_closed(work: &[u32], at: usize, levels: usize, count: u32, flags: [bool; 64]) -> bool
     requires { ⌜ (at ≤ length (now work)) × (length (now work) ≤ 16384) ⌝ }
     ensures { λ r. ⌜ r ≡ allClosedAt levels flags count (drop at (now (work .entry))) ⌝ }
 {

@@ -1,9 +1,8 @@
 // Whether a predicate is one of the problem's.
 use crate::fact::larger;
-use text::name::equal;
-use text::name::part;
 use text::table::Table;
 use text::table::entry;
+use text::table::is_named;
 ghost use mathlib.Core.Path.{_≡_};
 ghost use mathlib.Core.Bool.{_&&_};
 ghost use lib.Dec.{eqb};
@@ -13,18 +12,10 @@ ghost use Rattle.text.specs.Problem.{predicates, declared, isInput};
 ghost use Rattle.text.specs.memory.Table.{tableName};
 ghost use Rattle.formula.specs.memory.Signature.{signatureOf};
 
-fn has_name(problem: &[u8], table: Table, i: u32, name: &[u8]) -> bool
-    ensures { λ r. ⌜ r ≡ same (now (name .entry)) (tableName (now (problem .entry)) table i) ⌝ }
-{
-    let starts = table.start;
-    let sizes = table.size;
-    equal(name, part(problem, entry(starts, i), entry(sizes, i)))
-}
-
 fn is_predicate(problem: &[u8], table: Table, i: u32, name: &[u8], arity: usize) -> bool
     ensures { λ r. ⌜ r ≡ (same (now (name .entry)) (tableName (now (problem .entry)) table i) && eqb (getD (table .arity) i 0) arity) ⌝ }
 {
-    if !has_name(problem, table, i, name) {
+    if !is_named(problem, table, i, name) {
         return false;
     }
     let arities = table.arity;
@@ -52,7 +43,7 @@ pub fn is_input(problem: &[u8], table: Table, name: &[u8]) -> bool
 {
     let mut i: u32 = 0;
     while i < table.inputs {
-        if has_name(problem, table, i, name) {
+        if is_named(problem, table, i, name) {
             return true;
         }
         i += 1;

@@ -54,7 +54,7 @@ pub fn past(work: &[u32], at: usize, count: usize) -> usize
 }
 
 // One level down: a part of a connective from 0; of a quantifier 0 for the guard, 1 for the body.
-pub fn down(work: &[u32], at: usize, part: u32) -> Place
+fn down(work: &[u32], at: usize, part: u32) -> Place
     requires { ⌜ (length (now work) ≤ 16384) × (at ≤ length (now work)) ⌝ }
     ensures { λ r. ⌜ (r ≡ placeBelow (now (work .entry)) at part) × Within (length (now (work .entry))) r ⌝ }
 {

@@ -92,7 +92,7 @@ fn part_count(kind: Kind) -> u32
     }
 }
 
-// The same of a word.
+// How many follow a word.
 pub fn parts_of(word: u32) -> usize
     ensures { λ r. ⌜ (r ≡ partCount (kindOf word)) × (r < 4294967296) ⌝ }
 {

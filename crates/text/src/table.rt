@@ -31,7 +31,7 @@ pub fn entry(column: [u32; 32], i: u32) -> usize
 }
 
 // Whether a predicate has a name.
-fn is_named(text: &[u8], table: Table, i: u32, name: &[u8]) -> bool
+pub fn is_named(text: &[u8], table: Table, i: u32, name: &[u8]) -> bool
     ensures { λ r. ⌜ r ≡ same (now (name .entry)) (tableName (now (text .entry)) table i) ⌝ }
 {
     let starts = table.start;

@@ -46,7 +46,6 @@ pub record Inner (N : Naming) (f : Formula) (rewrite : Rewriting → Outcome ℕ
   pub words-put : (h : Formula) → wordsIn N (put h) ≡ before ++ (wordsIn N h ++ after)
   pub inner-depth : depth inner ≤ depth f
   pub inner-storable : Storable N f → Storable N inner
-  pub put-storable : (h : Formula) → Storable N f → Storable N h → Storable N (put h)
   pub inner-well : (P : Problem) → Well P f → Well P inner
 
 -- The same for a list of parts.
@@ -62,7 +61,6 @@ record InnerPart (N : Naming) (fs : Formulas) (i : ℕ) : Type 0 where
   pub skip-before : (s : List ℕ) → skip (allWordsIn N fs ++ s) i ≡ length before
   pub inner-depth : depth inner ≤ depths fs
   pub inner-storable : AllStorable N fs → Storable N inner
-  pub put-storable : (h : Formula) → AllStorable N fs → Storable N h → AllStorable N (put h)
   pub inner-well : (P : Problem) → AllWell P fs → Well P inner
 
 mapped-same : {A : Type 0} (o : Outcome ℕ A) → o ≡ mapped (λ a. a) o
@@ -106,7 +104,6 @@ module _ (N : Naming) where
     skip-before = λ s. skip-none _;
     inner-depth = omega arith;
     inner-storable = λ w. w .0;
-    put-storable = λ g w v. (v, w .1);
     inner-well = λ P w. first-well w;
   }
   part-inner (part f fs) (suc i) h =
@@ -126,7 +123,6 @@ module _ (N : Naming) where
             ∙ rw (r .skip-before s, length-append, length-words N f);
         inner-depth = omega (arith, r .inner-depth);
         inner-storable = λ w. r .inner-storable (w .1);
-        put-storable = λ g w v. (w .0, r .put-storable g (w .1) v);
         inner-well = λ P w. r .inner-well P (others-well w);
       }
 
@@ -144,7 +140,6 @@ module _ (N : Naming) where
     words-put = λ g. rw (r .total-put g, r .words-put g);
     inner-depth = omega (arith, r .inner-depth);
     inner-storable = r .inner-storable;
-    put-storable = r .put-storable;
     inner-well = λ P w. r .inner-well P (parts-well w);
   }
 
@@ -160,7 +155,6 @@ module _ (N : Naming) where
     words-put = λ h. refl;
     inner-depth = omega arith;
     inner-storable = λ w. w .1;
-    put-storable = λ h w v. (w .0, v, w .2);
     inner-well = λ P w. guard-well w;
   }
 
@@ -176,7 +170,6 @@ module _ (N : Naming) where
     words-put = λ h. rw append-nil;
     inner-depth = omega arith;
     inner-storable = λ w. w .2;
-    put-storable = λ h w v. (w .0, w .1, v);
     inner-well = λ P w. body-well w;
   }
 
@@ -243,7 +236,6 @@ module _ (N : Naming) (work : List ℕ) where
     words-put = λ h. rw append-nil;
     inner-depth = omega arith;
     inner-storable = λ w. w;
-    put-storable = λ h w v. v;
     inner-well = λ P w. w;
   }
 
@@ -259,7 +251,6 @@ module _ (N : Naming) (work : List ℕ) where
     words-put = λ h. a .words-put (b .put h) ∙ rw (b .words-put h) (simp append-assoc);
     inner-depth = omega (arith, a .inner-depth, b .inner-depth);
     inner-storable = λ w. b .inner-storable (a .inner-storable w);
-    put-storable = λ h w v. a .put-storable (b .put h) w (b .put-storable h (a .inner-storable w) v);
     inner-well = λ P w. b .inner-well P (a .inner-well P w);
   }
 

@@ -26,7 +26,7 @@ use Rattle.logic.specs.Normal.{isGNF}
 use Rattle.logic.specs.Limits.{guardQuantifiers, variables, allVariables, theoryVariables, sizeTotal, namesShort}
 use Rattle.formula.specs.memory.Words.{words, allWords}
 use Rattle.formula.specs.memory.Facts.{factsOf}
-use Rattle.formula.specs.memory.NameTable.{settled, extendedBy, indexIn, listFits}
+use Rattle.formula.specs.memory.NameTable.{settled, extendedBy, listFits}
 use Rattle.formula.specs.memory.Entries.{predicateIndex, settingOf, Memory, Entered}
 use Rattle.formula.specs.memory.FormulaReads.{Found}
 use Rattle.formula.specs.memory.TheoryLines.{readLine, LineFound}
@@ -37,8 +37,8 @@ use Rattle.formula.proofs.memory.Signature.{known-table, normal-table}
 use Rattle.formula.proofs.memory.Words.{allWords-sizes}
 use Rattle.formula.proofs.memory.Lists.{byte-read, byte-refused}
 use Rattle.formula.proofs.memory.NameTable.{extendedBy-settles}
-use Rattle.formula.proofs.memory.Entries.{entered-none, entered-alike, entered-then, index-kept}
-use Rattle.formula.proofs.memory.PartReads.{words-goes, allWords-goes, allVariables-last, allWords-last}
+use Rattle.formula.proofs.memory.Entries.{entered-none, entered-alike, entered-then}
+use Rattle.formula.proofs.memory.PartReads.{allWords-goes, allVariables-last, allWords-last}
 
 -- A line.
 
@@ -121,11 +121,6 @@ line-then {A} P k s = read (readFormula levelCount s)
     read (refused number) = refl
 
 -- The words of a theory's lines.
-
--- a formula's words are the same when more names come
-pub words-kept : (px : Name → ℕ) (f : Formula) (names more : List Name)
-    → words (indexIn (extendedBy names (variables f))) px f ≡ words (indexIn (extendedBy (extendedBy names (variables f)) more)) px f
-words-kept px f names more = words-goes px f _ _ (index-kept (variables f) more names)
 
 theoryVariables-parts : (fs : List Formula) → theoryVariables fs ≡ allVariables (partsOf fs)
 unfolding variables

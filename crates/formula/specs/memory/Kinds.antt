@@ -1,4 +1,4 @@
--- What a word of memory starts, and how many words whole formulas take. A word is `payload * 16 + tag`; the payload is a connective's part count, a
+-- What a word of memory starts, how many words whole formulas take, and whether terms are elements. A word is `payload * 16 + tag`; the payload is a connective's part count, a
 -- quantifier's or a term's variable index, an atom's `term count * 256 + predicate index`, or a term's element.
 use Prim.Native.Nat.{ℕ, zero, suc, _+_, _/_, _%_}
 use mathlib.Core.List.{List, [], _∷_}

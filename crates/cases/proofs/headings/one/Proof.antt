@@ -9,8 +9,9 @@ use Rattle.cases.proofs.headings.one.Tie as tie
 
 second-requires : tie.Need-second-requires
 second-requires c κs =
+    let version-end = c .before .before .before .version-end in
     let a = c .before .before .before .before .before .before .before .before .before .args in
-    subst (ToldEnd readVersion (a .text .now) 0) (c .before .at .given .1) (c .before .before .before .version-end .ensures) .taken .within
+    subst (ToldEnd readVersion (a .text .now) 0) (c .before .at .given .1) (version-end .ensures) .taken .within
 
 pub one-spec : {M : Type 1} → statement M
 one-spec =

@@ -7,7 +7,9 @@ use Rattle.desk.proofs.input.load.Statement.{statement}
 use Rattle.desk.proofs.input.load.Tie as tie
 
 returns-2 : tie.Need-returns-2
-returns-2 c = let size = c .before .before .before .fill .ensures in (size, sym (length-take-le _ _ size))
+returns-2 c =
+    let fill = c .before .before .before .fill in
+    let size = fill .ensures in (size, sym (length-take-le _ _ size))
 
 pub load-spec : {M : Type 1} → statement M
 load-spec =

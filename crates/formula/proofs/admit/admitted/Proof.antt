@@ -23,19 +23,22 @@ abbrev μ-loop : tie.MeasureT-loop
 
 loop-holds : tie.Need-loop-holds Inv-loop μ-loop
 loop-holds c =
-    let e : c .before .before .before .args .table .domain ≡ c .before .before .before .args .table .domain - 0 = omega arith in
+    let start = c .before .before .before in
+    let e : start .args .table .domain ≡ start .args .table .domain - 0 = omega arith in
     (omega arith, rw (← e))
 
 loop-again : tie.Need-loop-again Inv-loop μ-loop
 loop-again c =
+    let loop = c .before .before .before .loop in
+    let peek = c .before .before .before .before .peek in
     let a = c .before .before .before .before .before .before .before .args in
-    let l = c .before .before .before .loop in
+    let l = loop in
     let s = drop (a .at) (a .work .now) in
     let g : ℕ → Bool = guardAdmits (a .table) (a .rows .now) (a .levels) s in (
       omega arith,
       l .inv .1
           ∙ flags-next g (a .table .domain) (l .flags) (l .i) (c .evaluate .result) (omega arith)
-          (admits-here (a .work .now) (a .at) (a .levels) _ (c .before .before .before .before .peek .ensures) (a .table) (a .rows .now) (l .i + 1) _
+          (admits-here (a .work .now) (a .at) (a .levels) _ (peek .ensures) (a .table) (a .rows .now) (l .i + 1) _
           (c .evaluate .ensures ∙ ap (λ (values : List ℕ). trueAt (a .table) (a .rows .now) (a .levels) values (drop (a .at + 1) (a .work .now))) (c .before .with-value .ensures))),
     )
 

@@ -6,7 +6,9 @@ use Rattle.formula.proofs.binding.is_bound_at.Statement.{statement}
 use Rattle.formula.proofs.binding.is_bound_at.Tie as tie
 
 returns : tie.Need-returns
-returns c = c .equal .ensures ∙ rw (c .before .part .ensures, c .before .before .before .entry .ensures, c .before .before .entry2 .ensures)
+returns c =
+    let entry = c .before .before .before .entry in
+    c .equal .ensures ∙ rw (c .before .part .ensures, entry .ensures, c .before .before .entry2 .ensures)
 
 pub is-bound-at-spec : {M : Type 1} → statement M
 is-bound-at-spec =

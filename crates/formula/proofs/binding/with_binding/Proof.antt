@@ -6,7 +6,9 @@ use Rattle.formula.proofs.binding.with_binding.Statement.{statement}
 use Rattle.formula.proofs.binding.with_binding.Tie as tie
 
 returns : tie.Need-returns
-returns c = binds (c .before .before .args .scope) (c .before .before .args .at) (c .before .before .args .size) (search needs) (search needs) (search needs)
+returns c =
+    let start = c .before .before in
+    binds (start .args .scope) (start .args .at) (start .args .size) (search needs) (search needs) (search needs)
 
 pub with-binding-spec : {M : Type 1} → statement M
 with-binding-spec =

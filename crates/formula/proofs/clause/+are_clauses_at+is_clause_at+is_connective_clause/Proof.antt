@@ -105,17 +105,20 @@ are-clauses-at-loop-holds t c = (omega arith, refl)
 
 are-clauses-at-returns : (t : ℕ) → are-clauses-at-lts.Need-returns (are-clauses-at-calls t) (are-clauses-at-at t) are-clauses-at.Post are-clauses-at-Inv-loop are-clauses-at-μ-loop
 are-clauses-at-returns t c =
+    let loop = c .before .before .before .loop in
     let a = c .before .before .before .before .before .args in
-    let l = c .before .before .before .loop in
+    let l = loop in
     sym (l .inv .1 ∙ all-stop (clauseAt (a .table) (a .levels)) (a .work .now) (l .i) (l .pending) (c .before .before .loop-test .taken) (sym (c .before .is-clause-at .ensures) ∙ not-true _ (c .if1 .taken)))
 
 are-clauses-at-loop-again : (t : ℕ) → are-clauses-at-lts.Need-loop-again (are-clauses-at-calls t) (are-clauses-at-at t) are-clauses-at.Post are-clauses-at-Inv-loop are-clauses-at-μ-loop
 are-clauses-at-loop-again t c =
+    let loop-test = c .before .before .before .loop-test in
+    let loop = c .before .before .before .before .loop in
     let a = c .before .before .before .before .before .before .args in
-    let l = c .before .before .before .before .loop in
+    let l = loop in
     let t = clauseAt (a .table) (a .levels) in (
       c .past .ensures .1,
-      l .inv .1 ∙ all-more t (a .work .now) (l .i) (l .pending) (c .before .before .before .loop-test .taken) (sym (c .before .before .is-clause-at .ensures) ∙ not-false _ (c .before .if1 .left))
+      l .inv .1 ∙ all-more t (a .work .now) (l .i) (l .pending) (loop-test .taken) (sym (c .before .before .is-clause-at .ensures) ∙ not-false _ (c .before .if1 .left))
           ∙ ap (λ (j : ℕ). allAt t (l .pending - 1) (drop j (a .work .now))) (sym (c .past .ensures .0)),
     )
 
@@ -137,33 +140,47 @@ is-clause-at-returns-2 t c =
 
 is-clause-at-returns-3 : (t : ℕ) → is-clause-at-lts.Need-returns-3 (is-clause-at-calls t) (is-clause-at-at t) is-clause-at.Post
 is-clause-at-returns-3 t c =
+    let if2 = c .before .before .before .before .if2 in
+    let if1 = c .before .before .before .before .before .if1 in
     let a = c .before .before .before .before .before .before .before .args in
-    sym (clause-kind (a .table) (a .work .now) (a .at) (a .levels) _ (c .before .before .before .before .before .if1 .left) (c .before .before .before .before .if2 .left) (sym (c .before .before .kind-of .ensures) ∙ c .enum-told .given .1))
+    sym (clause-kind (a .table) (a .work .now) (a .at) (a .levels) _ (if1 .left) (if2 .left) (sym (c .before .before .kind-of .ensures) ∙ c .enum-told .given .1))
 
 is-clause-at-returns-4 : (t : ℕ) → is-clause-at-lts.Need-returns-4 (is-clause-at-calls t) (is-clause-at-at t) is-clause-at.Post
 is-clause-at-returns-4 t c =
+    let kind-of = c .before .before .before .before .kind-of in
+    let if2 = c .before .before .before .before .before .before .if2 in
+    let if1 = c .before .before .before .before .before .before .before .if1 in
     let a = c .before .before .before .before .before .before .before .before .before .args in
-    c .is-ground .ensures ∙ sym (clause-kind (a .table) (a .work .now) (a .at) (a .levels) _ (c .before .before .before .before .before .before .before .if1 .left) (c .before .before .before .before .before .before .if2 .left) (sym (c .before .before .before .before .kind-of .ensures) ∙ c .before .before .predicate .given .1))
+    c .is-ground .ensures ∙ sym (clause-kind (a .table) (a .work .now) (a .at) (a .levels) _ (if1 .left) (if2 .left) (sym (kind-of .ensures) ∙ c .before .before .predicate .given .1))
 
 is-clause-at-returns-5 : (t : ℕ) → is-clause-at-lts.Need-returns-5 (is-clause-at-calls t) (is-clause-at-at t) is-clause-at.Post
 is-clause-at-returns-5 t c =
+    let if2 = c .before .before .before .before .if2 in
+    let if1 = c .before .before .before .before .before .if1 in
     let a = c .before .before .before .before .before .before .before .args in
-    sym (clause-kind (a .table) (a .work .now) (a .at) (a .levels) _ (c .before .before .before .before .before .if1 .left) (c .before .before .before .before .if2 .left) (sym (c .before .before .kind-of .ensures) ∙ c .enum-told2 .given .1))
+    sym (clause-kind (a .table) (a .work .now) (a .at) (a .levels) _ (if1 .left) (if2 .left) (sym (c .before .before .kind-of .ensures) ∙ c .enum-told2 .given .1))
 
 is-clause-at-returns-6 : (t : ℕ) → is-clause-at-lts.Need-returns-6 (is-clause-at-calls t) (is-clause-at-at t) is-clause-at.Post
 is-clause-at-returns-6 t c =
+    let kind-of = c .before .before .before .before .kind-of in
+    let if2 = c .before .before .before .before .before .before .if2 in
+    let if1 = c .before .before .before .before .before .before .before .if1 in
     let a = c .before .before .before .before .before .before .before .before .before .args in
-    c .is-connective-clause .ensures ∙ sym (clause-kind (a .table) (a .work .now) (a .at) (a .levels) _ (c .before .before .before .before .before .before .before .if1 .left) (c .before .before .before .before .before .before .if2 .left) (sym (c .before .before .before .before .kind-of .ensures) ∙ c .before .before .sign .given .1))
+    c .is-connective-clause .ensures ∙ sym (clause-kind (a .table) (a .work .now) (a .at) (a .levels) _ (if1 .left) (if2 .left) (sym (kind-of .ensures) ∙ c .before .before .sign .given .1))
 
 is-clause-at-returns-7 : (t : ℕ) → is-clause-at-lts.Need-returns-7 (is-clause-at-calls t) (is-clause-at-at t) is-clause-at.Post
 is-clause-at-returns-7 t c =
+    let if2 = c .before .before .before .before .if2 in
+    let if1 = c .before .before .before .before .before .if1 in
     let a = c .before .before .before .before .before .before .before .args in
-    sym (clause-kind (a .table) (a .work .now) (a .at) (a .levels) _ (c .before .before .before .before .before .if1 .left) (c .before .before .before .before .if2 .left) (sym (c .before .before .kind-of .ensures) ∙ c .enum-told3 .given .1))
+    sym (clause-kind (a .table) (a .work .now) (a .at) (a .levels) _ (if1 .left) (if2 .left) (sym (c .before .before .kind-of .ensures) ∙ c .enum-told3 .given .1))
 
 is-clause-at-returns-8 : (t : ℕ) → is-clause-at-lts.Need-returns-8 (is-clause-at-calls t) (is-clause-at-at t) is-clause-at.Post
 is-clause-at-returns-8 t c =
+    let if2 = c .before .before .before .before .if2 in
+    let if1 = c .before .before .before .before .before .if1 in
     let a = c .before .before .before .before .before .before .before .args in
-    sym (clause-kind (a .table) (a .work .now) (a .at) (a .levels) _ (c .before .before .before .before .before .if1 .left) (c .before .before .before .before .if2 .left) (sym (c .before .before .kind-of .ensures) ∙ c .enum-told4 .given .1))
+    sym (clause-kind (a .table) (a .work .now) (a .at) (a .levels) _ (if1 .left) (if2 .left) (sym (c .before .before .kind-of .ensures) ∙ c .enum-told4 .given .1))
 
 is-connective-clause-returns : (t : ℕ) → is-connective-clause-lts.Need-returns (is-connective-clause-calls t) (is-connective-clause-at t) is-connective-clause.Post
 is-connective-clause-returns t c =
@@ -177,8 +194,9 @@ is-connective-clause-returns-2 t c =
 
 is-connective-clause-returns-3 : (t : ℕ) → is-connective-clause-lts.Need-returns-3 (is-connective-clause-calls t) (is-connective-clause-at t) is-connective-clause.Post
 is-connective-clause-returns-3 t c =
+    let sign = c .before .before .before .sign in
     let a = c .before .before .before .before .before .before .args in
-    junction-none (a .table) (clauseAt (a .table) (a .levels)) _ (a .count) (drop (a .at) (a .work .now)) _ (c .before .before .before .sign .given .1) (c .before .if2 .left) (c .if3 .taken)
+    junction-none (a .table) (clauseAt (a .table) (a .levels)) _ (a .count) (drop (a .at) (a .work .now)) _ (sign .given .1) (c .before .if2 .left) (c .if3 .taken)
 
 is-connective-clause-returns-4 : (t : ℕ) → is-connective-clause-lts.Need-returns-4 (is-connective-clause-calls t) (is-connective-clause-at t) is-connective-clause.Post
 is-connective-clause-returns-4 t c =
@@ -202,8 +220,9 @@ is-connective-clause-returns-7 t c =
 
 is-connective-clause-returns-8 : (t : ℕ) → is-connective-clause-lts.Need-returns-8 (is-connective-clause-calls t) (is-connective-clause-at t) is-connective-clause.Post
 is-connective-clause-returns-8 t c =
+    let sign = c .before .before .before .before .sign in
     let a = c .before .before .before .before .before .before .before .args in
-    c .are-clauses-at .ensures ∙ junction-some (a .table) (clauseAt (a .table) (a .levels)) _ (a .count) (drop (a .at) (a .work .now)) _ (c .before .before .before .before .sign .given .1) (c .before .before .if2 .left) (c .before .if3 .left)
+    c .are-clauses-at .ensures ∙ junction-some (a .table) (clauseAt (a .table) (a .levels)) _ (a .count) (drop (a .at) (a .work .now)) _ (sign .given .1) (c .before .before .if2 .left) (c .before .if3 .left)
 
 pub +are-clauses-at+is-clause-at+is-connective-clause-spec : {M : Type 1} → statement M
 +are-clauses-at+is-clause-at+is-connective-clause-spec =

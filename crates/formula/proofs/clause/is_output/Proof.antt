@@ -5,10 +5,14 @@ use Rattle.formula.proofs.clause.is_output.Statement.{statement}
 use Rattle.formula.proofs.clause.is_output.Tie as tie
 
 returns : tie.Need-returns
-returns c = output-input (c .before .before .args .table) (c .before .before .args .predicate) (c .if1 .taken)
+returns c =
+    let start = c .before .before in
+    output-input (start .args .table) (start .args .predicate) (c .if1 .taken)
 
 returns-2 : tie.Need-returns-2
-returns-2 c = output-behind (c .before .before .before .args .table) (c .before .before .before .args .predicate) (c .before .if1 .left)
+returns-2 c =
+    let start = c .before .before .before in
+    output-behind (start .args .table) (start .args .predicate) (c .before .if1 .left)
 
 pub is-output-spec : {M : Type 1} → statement M
 is-output-spec = tie.close (tie.spec returns returns-2)

@@ -22,9 +22,12 @@ loop-holds c = (omega arith, refl, remains-all)
 
 loop-again : tie.Need-loop-again Inv-loop μ-loop
 loop-again c =
+    let emit = c .before .before .emit in
+    let loop-test = c .before .before .before .before .before .loop-test in
+    let loop = c .before .before .before .before .before .before .loop in
     let a = c .before .before .before .before .before .before .before .before .before .before .args in
-    let l = c .before .before .before .before .before .before .loop in
-    (omega arith, c .before .before .emit .kept .1 .1 .1 .1 .0 ∙ l .inv .1, remains-then (l .inv .2) (from-byte (a .bytes .now) (l .i) (c .before .before .before .before .before .loop-test .taken)) (c .before .before .emit .ensures))
+    let l = loop in
+    (omega arith, emit .kept .1 .1 .1 .1 .0 ∙ l .inv .1, remains-then (l .inv .2) (from-byte (a .bytes .now) (l .i) (loop-test .taken)) (emit .ensures))
 
 same-length : tie.Need-same-length Inv-loop μ-loop
 same-length c = c .before .loop .inv .1

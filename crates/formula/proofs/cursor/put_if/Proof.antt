@@ -5,7 +5,9 @@ use Rattle.formula.proofs.cursor.put_if.Statement.{statement}
 use Rattle.formula.proofs.cursor.put_if.Tie as tie
 
 returns : tie.Need-returns
-returns c = rw (c .before .before .before .before .if1 .taken) (c .before .before .put .ensures)
+returns c =
+    let if1 = c .before .before .before .before .if1 in
+    rw (if1 .taken) (c .before .before .put .ensures)
 
 pub put-if-spec : {M : Type 1} → statement M
 put-if-spec = tie.close (tie.spec (λ c κs. search needs) (λ c. search needs) returns (λ c. search needs))

@@ -6,7 +6,9 @@ use Rattle.formula.proofs.cursor.stands.Statement.{statement}
 use Rattle.formula.proofs.cursor.stands.Tie as tie
 
 returns : tie.Need-returns
-returns c = first-within (c .before .before .args .text .now) (c .before .before .args .at) (c .before .before .args .b) (c .before .if1 .taken)
+returns c =
+    let start = c .before .before in
+    first-within (start .args .text .now) (start .args .at) (start .args .b) (c .before .if1 .taken)
 
 returns-2 : tie.Need-returns-2
 returns-2 c = first-beyond (c .before .args .text .now) (c .before .args .at) (c .before .args .b) (c .if1 .left)

@@ -5,7 +5,9 @@ use Rattle.formula.proofs.decide.evaluation_fit.Statement.{statement}
 use Rattle.formula.proofs.decide.evaluation_fit.Tie as tie
 
 returns : tie.Need-returns
-returns c = rw (c .before .before .before .kind .given .1) (rw (c .before .if1 .taken) (c .input-fit .ensures))
+returns c =
+    let kind = c .before .before .before .kind in
+    rw (kind .given .1) (rw (c .before .if1 .taken) (c .input-fit .ensures))
 
 returns-2 : tie.Need-returns-2
 returns-2 c = rw (c .before .before .enum-told2 .given .1) (rw (c .before .if2 .taken) (c .value-fit .ensures))

@@ -7,13 +7,20 @@ use Rattle.formula.proofs.decide.negation_fit.Statement.{statement}
 use Rattle.formula.proofs.decide.negation_fit.Tie as tie
 
 returns : tie.Need-returns
-returns c = rw (c .before .before .before .kind .given .1) (rw (sym (c .before .is-negation .ensures) ∙ not-true _ (c .if1 .taken)))
+returns c =
+    let kind = c .before .before .before .kind in
+    rw (kind .given .1) (rw (sym (c .before .is-negation .ensures) ∙ not-true _ (c .if1 .taken)))
 
 returns-2 : tie.Need-returns-2
-returns-2 c = rw (c .before .before .before .before .before .kind .given .1) (rw (sym (c .before .before .before .is-negation .ensures) ∙ not-false _ (c .before .before .if1 .left), eq-eqb _ 1 (c .before .if2 .taken)) (c .negated-fit .ensures))
+returns-2 c =
+    let is-negation = c .before .before .before .is-negation in
+    let kind = c .before .before .before .before .before .kind in
+    rw (kind .given .1) (rw (sym (is-negation .ensures) ∙ not-false _ (c .before .before .if1 .left), eq-eqb _ 1 (c .before .if2 .taken)) (c .negated-fit .ensures))
 
 returns-6 : tie.Need-returns-6
-returns-6 c = rw (c .before .before .before .before .kind .given .1) (rw (sym (c .before .before .is-negation .ensures) ∙ not-false _ (c .before .if1 .left), ne-eqb _ 1 (c .if2 .left)))
+returns-6 c =
+    let kind = c .before .before .before .before .kind in
+    rw (kind .given .1) (rw (sym (c .before .before .is-negation .ensures) ∙ not-false _ (c .before .if1 .left), ne-eqb _ 1 (c .if2 .left)))
 
 pub negation-fit-spec : {M : Type 1} → statement M
 negation-fit-spec =

@@ -12,39 +12,52 @@ use Rattle.formula.proofs.decide.rule_fit.Tie as tie
 
 returns : tie.Need-returns
 returns c =
+    let kind-of = c .before .before .before .kind-of in
+    let peek = c .before .before .before .before .peek in
     let a = c .before .before .before .before .before .before .before .args in
-    rw (c .before .enum-told .given .1) (c .junction-fit .ensures ∙ ap (junctionFit true) (kind-here (a .work .now) (a .at) (c .before .before .before .kind-of .ensures) (c .before .before .before .before .peek .ensures)))
+    rw (c .before .enum-told .given .1) (c .junction-fit .ensures ∙ ap (junctionFit true) (kind-here (a .work .now) (a .at) (kind-of .ensures) (peek .ensures)))
 
 returns-2 : tie.Need-returns-2
 returns-2 c =
+    let kind-of = c .before .before .before .kind-of in
+    let peek = c .before .before .before .before .peek in
     let a = c .before .before .before .before .before .before .before .args in
-    rw (c .before .enum-told2 .given .1) (c .junction-fit2 .ensures ∙ ap (junctionFit false) (kind-here (a .work .now) (a .at) (c .before .before .before .kind-of .ensures) (c .before .before .before .before .peek .ensures)))
+    rw (c .before .enum-told2 .given .1) (c .junction-fit2 .ensures ∙ ap (junctionFit false) (kind-here (a .work .now) (a .at) (kind-of .ensures) (peek .ensures)))
 
 returns-3 : tie.Need-returns-3
 returns-3 c =
+    let enum-told3 = c .before .before .before .enum-told3 in
+    let kind-of = c .before .before .before .before .before .kind-of in
+    let peek = c .before .before .before .before .before .before .peek in
     let a = c .before .before .before .before .before .before .before .before .before .args in
-    rw (c .before .before .before .enum-told3 .given .1)
+    rw (enum-told3 .given .1)
     (c .negation-fit .ensures
-    ∙ ap₂ negationFit (kind-here (a .work .now) (a .at) (c .before .before .before .before .before .kind-of .ensures) (c .before .before .before .before .before .before .peek .ensures)) (kind-next (a .work .now) (a .at) (c .before .kind-of2 .ensures) (c .before .before .peek2 .ensures)))
+    ∙ ap₂ negationFit (kind-here (a .work .now) (a .at) (kind-of .ensures) (peek .ensures)) (kind-next (a .work .now) (a .at) (c .before .kind-of2 .ensures) (c .before .before .peek2 .ensures)))
 
 returns-4 : tie.Need-returns-4
 returns-4 c =
+    let kind-of = c .before .before .before .kind-of in
+    let peek = c .before .before .before .before .peek in
     let a = c .before .before .before .before .before .before .before .args in
     rw (c .before .enum-told4 .given .1)
     (c .evaluation-fit .ensures
-    ∙ ap (λ (k : Kind). evaluationFit (a .table) (a .rows .now) true k (drop (a .at) (a .work .now))) (kind-here (a .work .now) (a .at) (c .before .before .before .kind-of .ensures) (c .before .before .before .before .peek .ensures)))
+    ∙ ap (λ (k : Kind). evaluationFit (a .table) (a .rows .now) true k (drop (a .at) (a .work .now))) (kind-here (a .work .now) (a .at) (kind-of .ensures) (peek .ensures)))
 
 returns-5 : tie.Need-returns-5
 returns-5 c =
+    let kind-of = c .before .before .before .kind-of in
+    let peek = c .before .before .before .before .peek in
     let a = c .before .before .before .before .before .before .before .args in
     rw (c .before .enum-told5 .given .1)
     (c .evaluation-fit2 .ensures
-    ∙ ap (λ (k : Kind). evaluationFit (a .table) (a .rows .now) false k (drop (a .at) (a .work .now))) (kind-here (a .work .now) (a .at) (c .before .before .before .kind-of .ensures) (c .before .before .before .before .peek .ensures)))
+    ∙ ap (λ (k : Kind). evaluationFit (a .table) (a .rows .now) false k (drop (a .at) (a .work .now))) (kind-here (a .work .now) (a .at) (kind-of .ensures) (peek .ensures)))
 
 returns-6 : tie.Need-returns-6
 returns-6 c =
+    let kind-of = c .before .before .before .kind-of in
+    let peek = c .before .before .before .before .peek in
     let a = c .before .before .before .before .before .before .before .args in
-    rw (c .before .enum-told6 .given .1) (c .quantifier-fit .ensures ∙ ap quantifierFit (kind-here (a .work .now) (a .at) (c .before .before .before .kind-of .ensures) (c .before .before .before .before .peek .ensures)))
+    rw (c .before .enum-told6 .given .1) (c .quantifier-fit .ensures ∙ ap quantifierFit (kind-here (a .work .now) (a .at) (kind-of .ensures) (peek .ensures)))
 
 pub rule-fit-spec : {M : Type 1} → statement M
 rule-fit-spec =

@@ -5,7 +5,9 @@ use Rattle.formula.proofs.fact.connective_facts.Statement.{statement}
 use Rattle.formula.proofs.fact.connective_facts.Tie as tie
 
 returns : tie.Need-returns
-returns c = rw (c .with-form5 .ensures, c .before .before .before .sign .given .1, c .before .if1 .taken)
+returns c =
+    let sign = c .before .before .before .sign in
+    rw (c .with-form5 .ensures, sign .given .1, c .before .if1 .taken)
 
 returns-2 : tie.Need-returns-2
 returns-2 c = rw (c .with-form .ensures, c .before .enum-told .given .1)
@@ -20,7 +22,9 @@ returns-5 : tie.Need-returns-5
 returns-5 c = rw (c .with-form4 .ensures, c .before .enum-told4 .given .1)
 
 returns-6 : tie.Need-returns-6
-returns-6 c = rw (c .with-form6 .ensures, c .before .before .before .sign .given .1, c .before .if1 .left)
+returns-6 c =
+    let sign = c .before .before .before .sign in
+    rw (c .with-form6 .ensures, sign .given .1, c .before .if1 .left)
 
 pub connective-facts-spec : {M : Type 1} → statement M
 connective-facts-spec =

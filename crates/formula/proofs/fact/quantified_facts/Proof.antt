@@ -5,7 +5,9 @@ use Rattle.formula.proofs.fact.quantified_facts.Statement.{statement}
 use Rattle.formula.proofs.fact.quantified_facts.Tie as tie
 
 returns : tie.Need-returns
-returns c = rw (c .before .before .before .both .ensures, c .before .before .both2 .ensures, c .before .larger .ensures, c .larger2 .ensures)
+returns c =
+    let both = c .before .before .before .both in
+    rw (both .ensures, c .before .before .both2 .ensures, c .before .larger .ensures, c .larger2 .ensures)
 
 pub quantified-facts-spec : {M : Type 1} → statement M
 quantified-facts-spec =

@@ -203,19 +203,23 @@ each-holds-loop-holds t c = (omega arith, omega arith, refl)
 
 each-holds-returns : (t : ℕ) → each-holds-lts.Need-returns (each-holds-calls t) (each-holds-at t) each-holds.Post each-holds-Inv-loop each-holds-μ-loop
 each-holds-returns t c =
+    let with-value = c .before .before .before .with-value in
+    let loop = c .before .before .before .before .before .loop in
     let a = c .before .before .before .before .before .before .before .before .args in
-    let l = c .before .before .before .before .before .loop in
+    let l = loop in
     let s = drop (a .at) (a .work .now) in
-    let is = c .before .before .element-holds .ensures ∙ ap (λ (e : List ℕ). elementAt (a .table) (a .rows .now) (a .levels) e (a .every) s) (c .before .before .before .with-value .ensures) in
+    let is = c .before .before .element-holds .ensures ∙ ap (λ (e : List ℕ). elementAt (a .table) (a .rows .now) (a .levels) e (a .every) s) (with-value .ensures) in
     let settled = sym (c .before .settles .ensures) ∙ c .if1 .taken in
     sym (l .inv .2 ∙ each-settled (a .table) (a .rows .now) (a .levels) (a .values) (a .every) (a .variable) s (l .v) (l .pending) _ (omega arith) is settled)
 
 each-holds-loop-again : (t : ℕ) → each-holds-lts.Need-loop-again (each-holds-calls t) (each-holds-at t) each-holds.Post each-holds-Inv-loop each-holds-μ-loop
 each-holds-loop-again t c =
+    let with-value = c .before .before .before .with-value in
+    let loop = c .before .before .before .before .before .loop in
     let a = c .before .before .before .before .before .before .before .before .args in
-    let l = c .before .before .before .before .before .loop in
+    let l = loop in
     let s = drop (a .at) (a .work .now) in
-    let is = c .before .before .element-holds .ensures ∙ ap (λ (e : List ℕ). elementAt (a .table) (a .rows .now) (a .levels) e (a .every) s) (c .before .before .before .with-value .ensures) in
+    let is = c .before .before .element-holds .ensures ∙ ap (λ (e : List ℕ). elementAt (a .table) (a .rows .now) (a .levels) e (a .every) s) (with-value .ensures) in
     let unsettled = sym (c .before .settles .ensures) ∙ c .if1 .left in (
       omega arith,
       omega arith,
@@ -239,8 +243,9 @@ element-holds-evaluate-requires-2 t c κs = (omega arith, (c .past .ensures .1, 
 
 element-holds-returns-2 : (t : ℕ) → element-holds-lts.Need-returns-2 (element-holds-calls t) (element-holds-at t) element-holds.Post
 element-holds-returns-2 t c =
+    let evaluate-told = c .before .before .before .evaluate in
     let a = c .before .before .before .before .before .before .args in
-    let guard = sym (c .before .before .before .evaluate .ensures) ∙ not-false _ (c .before .before .if1 .left) in
+    let guard = sym (evaluate-told .ensures) ∙ not-false _ (c .before .before .if1 .left) in
     let body = c .before .past .ensures .0 in
     element-inside (a .table) (a .rows .now) (a .work .now) (a .at) (a .levels) (a .values) (a .every) _ _ guard body (c .evaluate2 .ensures)
 
@@ -256,61 +261,74 @@ evaluate-returns-2 t c =
 
 evaluate-returns-3 : (t : ℕ) → evaluate-lts.Need-returns-3 (evaluate-calls t) (evaluate-at t) evaluate.Post
 evaluate-returns-3 t c =
+    let kind-of = c .before .before .before .kind-of in
+    let if1 = c .before .before .before .before .before .before .if1 in
     let a = c .before .before .before .before .before .before .before .before .before .args in
-    let some = c .before .before .before .before .before .before .if1 .left in
-    let told = sym (c .before .before .before .kind-of .ensures) ∙ c .before .b .given .1 in
+    let some = if1 .left in
+    let told = sym (kind-of .ensures) ∙ c .before .b .given .1 in
     value-truth (a .table) (a .rows .now) (a .work .now) (a .at) (a .levels) (a .values) some _ told
 
 evaluate-returns-4 : (t : ℕ) → evaluate-lts.Need-returns-4 (evaluate-calls t) (evaluate-at t) evaluate.Post
 evaluate-returns-4 t c =
+    let kind-of = c .before .before .before .before .kind-of in
+    let if1 = c .before .before .before .before .before .before .before .if1 in
     let a = c .before .before .before .before .before .before .before .before .before .before .args in
-    let some = c .before .before .before .before .before .before .before .if1 .left in
-    let told = sym (c .before .before .before .before .kind-of .ensures) ∙ c .before .before .predicate .given .1 in
+    let some = if1 .left in
+    let told = sym (kind-of .ensures) ∙ c .before .before .predicate .given .1 in
     c .atom-holds .ensures
     ∙ sym (value-atom (a .table) (a .rows .now) (a .work .now) (a .at) (a .levels) (a .values) some _ _ told)
 
 evaluate-returns-5 : (t : ℕ) → evaluate-lts.Need-returns-5 (evaluate-calls t) (evaluate-at t) evaluate.Post
 evaluate-returns-5 t c =
+    let kind-of = c .before .before .before .kind-of in
+    let if1 = c .before .before .before .before .before .before .if1 in
     let a = c .before .before .before .before .before .before .before .before .before .args in
-    let some = c .before .before .before .before .before .before .if1 .left in
-    let told = sym (c .before .before .before .kind-of .ensures) ∙ c .before .enum-told .given .1 in
+    let some = if1 .left in
+    let told = sym (kind-of .ensures) ∙ c .before .enum-told .given .1 in
     c .equal-holds .ensures
     ∙ sym (value-equal (a .table) (a .rows .now) (a .work .now) (a .at) (a .levels) (a .values) some told)
 
 evaluate-returns-6 : (t : ℕ) → evaluate-lts.Need-returns-6 (evaluate-calls t) (evaluate-at t) evaluate.Post
 evaluate-returns-6 t c =
+    let kind-of = c .before .before .before .before .kind-of in
+    let if1 = c .before .before .before .before .before .before .before .if1 in
     let a = c .before .before .before .before .before .before .before .before .before .before .args in
-    let some = c .before .before .before .before .before .before .before .if1 .left in
-    let told = sym (c .before .before .before .before .kind-of .ensures) ∙ c .before .before .sign .given .1 in
+    let some = if1 .left in
+    let told = sym (kind-of .ensures) ∙ c .before .before .sign .given .1 in
     c .connective-holds .ensures
     ∙ sym (value-connective (a .table) (a .rows .now) (a .work .now) (a .at) (a .levels) (a .values) some _ _ told)
 
 evaluate-returns-7 : (t : ℕ) → evaluate-lts.Need-returns-7 (evaluate-calls t) (evaluate-at t) evaluate.Post
 evaluate-returns-7 t c =
+    let kind-of = c .before .before .before .before .kind-of in
+    let if1 = c .before .before .before .before .before .before .before .if1 in
     let a = c .before .before .before .before .before .before .before .before .before .before .args in
-    let some = c .before .before .before .before .before .before .before .if1 .left in
-    let told = sym (c .before .before .before .before .kind-of .ensures) ∙ c .before .before .every .given .1 in
+    let some = if1 .left in
+    let told = sym (kind-of .ensures) ∙ c .before .before .every .given .1 in
     c .each-holds .ensures
     ∙ sym (value-quantifier (a .table) (a .rows .now) (a .work .now) (a .at) (a .levels) (a .values) some _ _ (search needs) told)
 
 evaluate-returns-8 : (t : ℕ) → evaluate-lts.Need-returns-8 (evaluate-calls t) (evaluate-at t) evaluate.Post
 evaluate-returns-8 t c =
+    let if1 = c .before .before .before .before .before .if1 in
     let a = c .before .before .before .before .before .before .before .before .args in
-    let some = c .before .before .before .before .before .if1 .left in
+    let some = if1 .left in
     let told = sym (c .before .before .kind-of .ensures) ∙ c .enum-told2 .given .1 in
     value-term (a .table) (a .rows .now) (a .work .now) (a .at) (a .levels) (a .values) some told
 
 pair-holds-returns : (t : ℕ) → pair-holds-lts.Need-returns (pair-holds-calls t) (pair-holds-at t) pair-holds.Post
 pair-holds-returns t c =
+    let part-holds-told = c .before .before .before .part-holds in
     let a = c .before .before .before .before .before .before .args in
     let truths = truthsAt (a .table) (a .rows .now) (a .levels) (a .values) (a .parts) (drop (a .at) (a .work .now)) in
     c .connected .ensures ∙ connect-settled (a .sign) _ _ _ (sym (c .before .before .first-settles .ensures) ∙ c .before .if1 .taken)
-    ∙ ap (λ (b : Bool). connect (connectiveOf (a .sign)) (b ∷ getD truths 1 false ∷ [])) (c .before .before .before .part-holds .ensures)
+    ∙ ap (λ (b : Bool). connect (connectiveOf (a .sign)) (b ∷ getD truths 1 false ∷ [])) (part-holds-told .ensures)
 
 pair-holds-returns-2 : (t : ℕ) → pair-holds-lts.Need-returns-2 (pair-holds-calls t) (pair-holds-at t) pair-holds.Post
 pair-holds-returns-2 t c =
+    let part-holds-told = c .before .before .before .before .part-holds in
     let a = c .before .before .before .before .before .before .before .args in
-    c .connected2 .ensures ∙ ap₂ (λ (b d : Bool). connect (connectiveOf (a .sign)) (b ∷ d ∷ [])) (c .before .before .before .before .part-holds .ensures) (c .before .part-holds2 .ensures)
+    c .connected2 .ensures ∙ ap₂ (λ (b d : Bool). connect (connectiveOf (a .sign)) (b ∷ d ∷ [])) (part-holds-told .ensures) (c .before .part-holds2 .ensures)
 
 part-holds-returns : (t : ℕ) → part-holds-lts.Need-returns (part-holds-calls t) (part-holds-at t) part-holds.Post
 part-holds-returns t c =
@@ -338,17 +356,20 @@ parts-hold-loop-holds t c = (omega arith, refl)
 
 parts-hold-returns : (t : ℕ) → parts-hold-lts.Need-returns (parts-hold-calls t) (parts-hold-at t) parts-hold.Post parts-hold-Inv-loop parts-hold-μ-loop
 parts-hold-returns t c =
+    let loop = c .before .before .before .before .loop in
     let a = c .before .before .before .before .before .before .before .args in
-    let l = c .before .before .before .before .loop in
+    let l = loop in
     let is = c .before .before .evaluate .ensures in
     let settled = sym (c .before .settles .ensures) ∙ c .if1 .taken in
     sym (l .inv .1 ∙ parts-settled (a .table) (a .rows .now) (a .levels) (a .values) (a .work .now) (l .i) (l .pending) (a .every) _ (omega arith) is settled)
 
 parts-hold-loop-again : (t : ℕ) → parts-hold-lts.Need-loop-again (parts-hold-calls t) (parts-hold-at t) parts-hold.Post parts-hold-Inv-loop parts-hold-μ-loop
 parts-hold-loop-again t c =
+    let evaluate-told = c .before .before .before .evaluate in
+    let loop = c .before .before .before .before .before .loop in
     let a = c .before .before .before .before .before .before .before .before .args in
-    let l = c .before .before .before .before .before .loop in
-    let is = c .before .before .before .evaluate .ensures in
+    let l = loop in
+    let is = evaluate-told .ensures in
     let unsettled = sym (c .before .before .settles .ensures) ∙ c .before .if1 .left in
     let next = c .past .ensures in (
       next .1,

@@ -13,7 +13,9 @@ returns-3 : tie.Need-returns-3
 returns-3 c = equivalent-true _ _ _ (c .before .enum-told4 .given .1) (c .if3 .taken)
 
 returns-4 : tie.Need-returns-4
-returns-4 c = junction-settled _ _ _ _ (c .before .before .before .sign .given .1) (sym (c .before .settles .ensures) ∙ c .if4 .taken)
+returns-4 c =
+    let sign = c .before .before .before .sign in
+    junction-settled _ _ _ _ (sign .given .1) (sym (c .before .settles .ensures) ∙ c .if4 .taken)
 
 returns-7 : tie.Need-returns-7
 returns-7 c = impliedBy-false _ _ _ (c .before .enum-told3 .given .1) (c .if2 .left)
@@ -22,7 +24,9 @@ returns-8 : tie.Need-returns-8
 returns-8 c = equivalent-false _ _ _ (c .before .enum-told4 .given .1) (c .if3 .left)
 
 returns-9 : tie.Need-returns-9
-returns-9 c = junction-open _ _ _ _ (c .before .before .before .sign .given .1) (sym (c .before .settles .ensures) ∙ c .if4 .left)
+returns-9 c =
+    let sign = c .before .before .before .sign in
+    junction-open _ _ _ _ (sign .given .1) (sym (c .before .settles .ensures) ∙ c .if4 .left)
 
 pub connected-spec : {M : Type 1} → statement M
 connected-spec =

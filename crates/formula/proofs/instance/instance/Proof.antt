@@ -28,21 +28,25 @@ slice-read-word c = omega (arith, ahead-length (c .before .before .loop .inv .3)
 
 put-requires : tie.Need-put-requires Inv-loop μ-loop
 put-requires c κs =
+    let loop = c .before .before .before .before .loop in
     let a = c .before .before .before .before .before .before .args in
     let s = slice (a .at) (a .end) (a .work .now) in
-    omega (arith, c .before .before .before .before .loop .inv .3 .ends, length-wordsWith (a .x) (a .v) s 0, length-slice (a .at) (a .end) (a .work .now) (omega arith))
+    omega (arith, loop .inv .3 .ends, length-wordsWith (a .x) (a .v) s 0, length-slice (a .at) (a .end) (a .work .now) (omega arith))
 
 loop-again : tie.Need-loop-again Inv-loop μ-loop
 loop-again c =
+    let put = c .before .before .before .put in
+    let word-with = c .before .before .before .before .word-with in
+    let loop = c .before .before .before .before .before .before .before .before .loop in
     let a = c .before .before .before .before .before .before .before .before .before .before .args in
-    let l = c .before .before .before .before .before .before .before .before .loop in
+    let l = loop in
     let same = ahead-read (l .inv .3) (l .i) (omega arith) in (
       omega arith,
       omega arith,
       omega (arith, c .held-after .ensures .1),
       ahead-turn (l .inv .3)
-          (rw (c .before .before .before .before .word-with .ensures, c .held-after .ensures .0, same) (wordsWith-next (a .x) (a .v) (a .work .now) (a .end) (l .held) (l .i) (omega arith) (omega arith)))
-          (c .before .before .before .put .ensures),
+          (rw (word-with .ensures, c .held-after .ensures .0, same) (wordsWith-next (a .x) (a .v) (a .work .now) (a .end) (l .held) (l .i) (omega arith) (omega arith)))
+          (put .ensures),
     )
 
 same-length : tie.Need-same-length Inv-loop μ-loop

@@ -7,7 +7,9 @@ use Rattle.formula.proofs.instance.instance_if.Statement.{statement}
 use Rattle.formula.proofs.instance.instance_if.Tie as tie
 
 returns : tie.Need-returns
-returns c = rw (c .before .before .before .before .if1 .taken) (c .before .before .instance .ensures)
+returns c =
+    let if1 = c .before .before .before .before .if1 in
+    rw (if1 .taken) (c .before .before .instance .ensures)
 
 returns-2 : tie.Need-returns-2
 returns-2 c = rw (c .if1 .left) (record { holds = refl; ends = omega arith })

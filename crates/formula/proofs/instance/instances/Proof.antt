@@ -23,17 +23,20 @@ loop-holds c = (omega arith, ahead-start _ _ _)
 
 instance-if-requires : tie.Need-instance-if-requires Inv-loop μ-loop
 instance-if-requires c κs =
-    let a = c .before .before .before .before .args in
+    let start = c .before .before .before .before in
+    let a = start .args in
     let l = c .before .before .loop in
-    omega (arith, l .inv .1 .after, l .inv .1 .ends, ahead-length (l .inv .1), copies-near (a .t5) (a .domain) (a .x) (a .work .now) (a .at) (a .end) 1 (omega arith), c .before .before .before .before .pre .0)
+    omega (arith, l .inv .1 .after, l .inv .1 .ends, ahead-length (l .inv .1), copies-near (a .t5) (a .domain) (a .x) (a .work .now) (a .at) (a .end) 1 (omega arith), start .pre .0)
 
 loop-again : tie.Need-loop-again Inv-loop μ-loop
 loop-again c =
-    let a = c .before .before .before .before .before .before .before .args in
-    let l = c .before .before .before .before .before .loop in (
+    let loop = c .before .before .before .before .before .loop in
+    let start = c .before .before .before .before .before .before .before in
+    let a = start .args in
+    let l = loop in (
       omega arith,
       ahead-turn (l .inv .1)
-          (rw (ahead-slice (l .inv .1) (a .at) (a .end) (omega (arith, c .before .before .before .before .before .before .before .pre .0))) (copies-next (a .t5) (a .domain) (l .i) (omega arith) (search needs) (a .x) (slice (a .at) (a .end) (a .work .now))))
+          (rw (ahead-slice (l .inv .1) (a .at) (a .end) (omega (arith, start .pre .0))) (copies-next (a .t5) (a .domain) (l .i) (omega arith) (search needs) (a .x) (slice (a .at) (a .end) (a .work .now))))
           (c .before .before .instance-if .ensures),
     )
 

@@ -23,17 +23,19 @@ loop-holds c = (omega arith, omega arith, omega arith)
 
 loop-again : tie.Need-loop-again Inv-loop μ-loop
 loop-again c =
+    let start = c .before .before .before in
     let l = c .before .before .loop in
-    let n = c .before .before .before .args .domain in
+    let n = start .args .domain in
     ⊎-elim
-    (λ w. let z = setCount-set (c .before .before .before .args .t1) n (l .i) (omega arith) (search needs) (w .0 .taken) in (omega arith, omega (arith, w .1), omega (arith, l .inv .2, w .1)))
-    (λ w. let z = setCount-unset (c .before .before .before .args .t1) n (l .i) (omega arith) (search needs) (w .0 .left) in (omega arith, omega (arith, w .1), omega (arith, l .inv .2, w .1)))
+    (λ w. let z = setCount-set (start .args .t1) n (l .i) (omega arith) (search needs) (w .0 .taken) in (omega arith, omega (arith, w .1), omega (arith, l .inv .2, w .1)))
+    (λ w. let z = setCount-unset (start .args .t1) n (l .i) (omega arith) (search needs) (w .0 .left) in (omega arith, omega (arith, w .1), omega (arith, l .inv .2, w .1)))
     (c .if1 .came)
 
 returns : tie.Need-returns Inv-loop μ-loop
 returns c =
+    let start = c .before .before in
     let l = c .before .loop in
-    let z = setCount-none (c .before .before .args .t1) (c .before .before .args .domain) (l .i) (omega arith) in
+    let z = setCount-none (start .args .t1) (start .args .domain) (l .i) (omega arith) in
     (omega (arith, l .inv .2), omega arith)
 
 pub set-count-spec : {M : Type 1} → statement M

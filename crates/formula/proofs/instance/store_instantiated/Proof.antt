@@ -10,23 +10,35 @@ use Rattle.formula.proofs.instance.store_instantiated.Statement.{statem
 use Rattle.formula.proofs.instance.store_instantiated.Tie as tie
 
 slice-aggregate-past : tie.Need-slice-aggregate-past
-slice-aggregate-past c = sym (length-take-le (c .before .before .before .args .end) (c .before .before .before .args .work .now) (omega (arith, c .before .before .before .pre .0)))
+slice-aggregate-past c =
+    let start = c .before .before .before in
+    sym (length-take-le (start .args .end) (start .args .work .now) (omega (arith, start .pre .0)))
 
 past-requires : tie.Need-past-requires
 past-requires c κs =
-    let l = length-take-le (c .before .before .before .args .end) (c .before .before .before .args .work .now) (omega (arith, c .before .before .before .pre .0)) in
-    omega (arith, c .before .before .before .pre .0)
+    let start = c .before .before .before in
+    let l = length-take-le (start .args .end) (start .args .work .now) (omega (arith, start .pre .0)) in
+    omega (arith, start .pre .0)
 
 instances-requires : tie.Need-instances-requires
 instances-requires c κs =
-    let l = length-take-le (c .before .before .before .before .before .before .before .before .before .before .before .args .end) (c .before .before .before .before .before .before .before .before .before .before .before .args .work .now) (omega (arith, c .before .before .before .before .before .before .before .before .before .before .before .pre .0)) in
-    omega (arith, c .before .before .before .before .before .before .before .before .before .before .before .pre .0, c .before .before .before .before .before .before .before .past .ensures .1, c .before .before .before .put .ensures .ends, c .before .before .before .put .kept .0, c .before .before .before .before .before .before .before .before .before .slice-known2 .given (c .before .before .before .before .before .before .before .before .before .before .before .args .at))
+    let put = c .before .before .before .put in
+    let past = c .before .before .before .before .before .before .before .past in
+    let slice-known2 = c .before .before .before .before .before .before .before .before .before .slice-known2 in
+    let start = c .before .before .before .before .before .before .before .before .before .before .before in
+    let l = length-take-le (start .args .end) (start .args .work .now) (omega (arith, start .pre .0)) in
+    omega (arith, start .pre .0, past .ensures .1, put .ensures .ends, put .kept .0, slice-known2 .given (start .args .at))
 
 returns : tie.Need-returns
 returns c =
-    let a = c .before .before .before .before .before .before .before .before .before .before .before .before .before .before .args in
-    instantiated-stores (a .at) (a .end) (c .before .before .before .before .before .before .before .before .before .before .past .result) (getD (a .work .now) (a .at) 0) (c .before .before .before .before .before .before .before .junction-word .result) (take (a .domain) (a .flags)) (omega (arith, c .before .before .before .before .before .before .before .before .before .before .before .before .before .before .pre .0)) (c .before .before .before .before .before .before .before .before .before .before .past .ensures .0)
-    (c .before .before .before .before .before .before .before .junction-word .ensures ∙ rw (c .before .before .before .before .before .before .before .before .before .set-count .ensures .0)) (c .before .before .before .before .before .before .put .ensures) (c .before .before .instances .ensures)
+    let put = c .before .before .before .before .before .before .put in
+    let junction-word = c .before .before .before .before .before .before .before .junction-word in
+    let set-count = c .before .before .before .before .before .before .before .before .before .set-count in
+    let past = c .before .before .before .before .before .before .before .before .before .before .past in
+    let start = c .before .before .before .before .before .before .before .before .before .before .before .before .before .before in
+    let a = start .args in
+    instantiated-stores (a .at) (a .end) (past .result) (getD (a .work .now) (a .at) 0) (junction-word .result) (take (a .domain) (a .flags)) (omega (arith, start .pre .0)) (past .ensures .0)
+    (junction-word .ensures ∙ rw (set-count .ensures .0)) (put .ensures) (c .before .before .instances .ensures)
 
 pub store-instantiated-spec : {M : Type 1} → statement M
 store-instantiated-spec =

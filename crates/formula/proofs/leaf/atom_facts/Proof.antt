@@ -5,7 +5,10 @@ use Rattle.formula.proofs.leaf.atom_facts.Statement.{statement}
 use Rattle.formula.proofs.leaf.atom_facts.Tie as tie
 
 returns : tie.Need-returns
-returns c = rw (c .simple-facts .ensures, c .before .before .both .ensures, c .before .before .before .is-declared .ensures, c .before .is-input .ensures, c .before .before .before .before .part .ensures)
+returns c =
+    let is-declared = c .before .before .before .is-declared in
+    let part = c .before .before .before .before .part in
+    rw (c .simple-facts .ensures, c .before .before .both .ensures, is-declared .ensures, c .before .is-input .ensures, part .ensures)
 
 pub atom-facts-spec : {M : Type 1} → statement M
 atom-facts-spec =

@@ -2,8 +2,8 @@
 -- Assumes nothing.
 use borrow.Author.Needs.{needs}
 use native.Mathlib.Omega.{arith}
-use Prim.Native.Nat.{_+_, _-_}
-use lib.ListN.{take, drop}
+use Prim.Native.Nat.{_+_, _-_, _≤_}
+use lib.ListN.{length, take, drop}
 use Rattle.text.specs.Problem.{readName}
 use Rattle.formula.specs.memory.Bindings.{boundIn}
 use Rattle.formula.specs.memory.Entries.{settingOf, memory}
@@ -16,74 +16,79 @@ use Rattle.formula.proofs.leaf.read_atom.Tie as tie
 
 read-arguments-requires : tie.Need-read-arguments-requires
 read-arguments-requires c κs =
+    let end = c .before .before .before .end in
+    let predicate-end = c .before .before .before .before .before .predicate-end in
     let a = c .before .before .before .before .before .before .before .before .before .args in
-    let w = word-done (readName 5) (a .text .now) (a .at) (c .before .before .before .before .before .predicate-end .result) (c .before .before .before .before .before .predicate-end .ensures) (c .before .before .before .end .given .0 .0) (c .before .before .before .end .given .1) in
+    let w = word-done (readName 5) (a .text .now) (a .at) (predicate-end .result) (predicate-end .ensures) (end .given .0 .0) (end .given .1) in
     (omega (arith, w .within), omega arith, omega arith, omega (arith, w .after))
 
 sub-size : tie.Need-sub-size
 sub-size c =
+    let end = c .before .before .before .before .before .before .before .before .before .end in
+    let predicate-end = c .before .before .before .before .before .before .before .before .before .before .before .predicate-end in
     let a = c .before .before .before .before .before .before .before .before .before .before .before .before .before .before .before .args in
-    let w = word-done (readName 5) (a .text .now) (a .at) (c .before .before .before .before .before .before .before .before .before .before .before .predicate-end .result) (c .before .before .before .before .before .before .before .before .before .before .before .predicate-end .ensures) (c .before .before .before .before .before .before .before .before .before .end .given .0 .0) (c .before .before .before .before .before .before .before .before .before .end .given .1) in
+    let w = word-done (readName 5) (a .text .now) (a .at) (predicate-end .result) (predicate-end .ensures) (end .given .0 .0) (end .given .1) in
     omega (arith, w .after)
 
+-- how far the terms reach, and where the predicate stands in the table
+bounds : (c : tie.After-find)
+    → let a = c .before .before .before .before .before .before .before .before .before .before .before .before .before .before .before .before .args in
+    let end = c .before .before .before .before .before .before .before .before .before .before .end in
+    let next = c .before .before .next in
+    (end .given .0 .0 + next .given .0 .1 .0 + (next .given .0 .1 .0 - 1) ≤ next .given .0 .0) × (next .given .0 .0 ≤ length (a .text .now)) × (c .find .result ≤ a .table .count)
+bounds c =
+    let next = c .before .before .next in
+    let read-arguments = c .before .before .before .before .before .before .read-arguments in
+    let end = c .before .before .before .before .before .before .before .before .before .before .end in
+    let a = c .before .before .before .before .before .before .before .before .before .before .before .before .before .before .before .before .args in
+    let f = terms-done (a .text .now) (a .table .domain) (boundIn (a .text .now) (a .scope)) readTermList (end .given .0 .0) (memory (a .names .now) (a .work .now)) (a .to + 1) _ (read-arguments .result) (read-arguments .ensures) (next .given .0 .0) (next .given .0 .1 .0) (next .given .0 .1 .1 .0) (next .given .1) in
+    (f .after, f .within, rw (c .find .ensures) (position-table (a .problem .now) (a .table) (take (end .given .0 .0 - a .at) (drop (a .at) (a .text .now)))))
+
 cast-set-word : tie.Need-cast-set-word
-cast-set-word c =
-    let a = c .before .before .before .before .before .before .before .before .before .before .before .before .before .before .before .before .before .args in
-    let f = terms-done (a .text .now) (a .table .domain) (boundIn (a .text .now) (a .scope)) readTermList (c .before .before .before .before .before .before .before .before .before .before .before .end .given .0 .0) (memory (a .names .now) (a .work .now)) (a .to + 1) _ (c .before .before .before .before .before .before .before .read-arguments .result) (c .before .before .before .before .before .before .before .read-arguments .ensures) (c .before .before .before .next .given .0 .0) (c .before .before .before .next .given .0 .1 .0) (c .before .before .before .next .given .0 .1 .1 .0) (c .before .before .before .next .given .1) in
-    let p = position-table (a .problem .now) (a .table) (take (c .before .before .before .before .before .before .before .before .before .before .before .end .given .0 .0 - a .at) (drop (a .at) (a .text .now))) in
-    omega (arith, f .after, f .within, c .before .find .ensures)
+cast-set-word c = omega (arith, bounds (c .before))
 
 mul-set-word : tie.Need-mul-set-word
-mul-set-word c =
-    let a = c .before .before .before .before .before .before .before .before .before .before .before .before .before .before .before .before .before .args in
-    let f = terms-done (a .text .now) (a .table .domain) (boundIn (a .text .now) (a .scope)) readTermList (c .before .before .before .before .before .before .before .before .before .before .before .end .given .0 .0) (memory (a .names .now) (a .work .now)) (a .to + 1) _ (c .before .before .before .before .before .before .before .read-arguments .result) (c .before .before .before .before .before .before .before .read-arguments .ensures) (c .before .before .before .next .given .0 .0) (c .before .before .before .next .given .0 .1 .0) (c .before .before .before .next .given .0 .1 .1 .0) (c .before .before .before .next .given .1) in
-    let p = position-table (a .problem .now) (a .table) (take (c .before .before .before .before .before .before .before .before .before .before .before .end .given .0 .0 - a .at) (drop (a .at) (a .text .now))) in
-    omega (arith, f .after, f .within, c .before .find .ensures)
+mul-set-word c = omega (arith, bounds (c .before))
 
 add-set-word : tie.Need-add-set-word
-add-set-word c =
-    let a = c .before .before .before .before .before .before .before .before .before .before .before .before .before .before .before .before .before .args in
-    let f = terms-done (a .text .now) (a .table .domain) (boundIn (a .text .now) (a .scope)) readTermList (c .before .before .before .before .before .before .before .before .before .before .before .end .given .0 .0) (memory (a .names .now) (a .work .now)) (a .to + 1) _ (c .before .before .before .before .before .before .before .read-arguments .result) (c .before .before .before .before .before .before .before .read-arguments .ensures) (c .before .before .before .next .given .0 .0) (c .before .before .before .next .given .0 .1 .0) (c .before .before .before .next .given .0 .1 .1 .0) (c .before .before .before .next .given .1) in
-    let p = position-table (a .problem .now) (a .table) (take (c .before .before .before .before .before .before .before .before .before .before .before .end .given .0 .0 - a .at) (drop (a .at) (a .text .now))) in
-    omega (arith, f .after, f .within, c .before .find .ensures)
+add-set-word c = omega (arith, bounds (c .before))
 
 mul-set-word-2 : tie.Need-mul-set-word-2
-mul-set-word-2 c =
-    let a = c .before .before .before .before .before .before .before .before .before .before .before .before .before .before .before .before .before .args in
-    let f = terms-done (a .text .now) (a .table .domain) (boundIn (a .text .now) (a .scope)) readTermList (c .before .before .before .before .before .before .before .before .before .before .before .end .given .0 .0) (memory (a .names .now) (a .work .now)) (a .to + 1) _ (c .before .before .before .before .before .before .before .read-arguments .result) (c .before .before .before .before .before .before .before .read-arguments .ensures) (c .before .before .before .next .given .0 .0) (c .before .before .before .next .given .0 .1 .0) (c .before .before .before .next .given .0 .1 .1 .0) (c .before .before .before .next .given .1) in
-    let p = position-table (a .problem .now) (a .table) (take (c .before .before .before .before .before .before .before .before .before .before .before .end .given .0 .0 - a .at) (drop (a .at) (a .text .now))) in
-    omega (arith, f .after, f .within, c .before .find .ensures)
+mul-set-word-2 c = omega (arith, bounds (c .before))
 
 add-set-word-2 : tie.Need-add-set-word-2
-add-set-word-2 c =
-    let a = c .before .before .before .before .before .before .before .before .before .before .before .before .before .before .before .before .before .args in
-    let f = terms-done (a .text .now) (a .table .domain) (boundIn (a .text .now) (a .scope)) readTermList (c .before .before .before .before .before .before .before .before .before .before .before .end .given .0 .0) (memory (a .names .now) (a .work .now)) (a .to + 1) _ (c .before .before .before .before .before .before .before .read-arguments .result) (c .before .before .before .before .before .before .before .read-arguments .ensures) (c .before .before .before .next .given .0 .0) (c .before .before .before .next .given .0 .1 .0) (c .before .before .before .next .given .0 .1 .1 .0) (c .before .before .before .next .given .1) in
-    let p = position-table (a .problem .now) (a .table) (take (c .before .before .before .before .before .before .before .before .before .before .before .end .given .0 .0 - a .at) (drop (a .at) (a .text .now))) in
-    omega (arith, f .after, f .within, c .before .find .ensures)
+add-set-word-2 c = omega (arith, bounds (c .before))
 
 add-t31 : tie.Need-add-t31
-add-t31 c =
-    let a = c .before .before .before .before .before .before .before .before .before .before .before .before .before .before .before .before .before .before .before .before .args in
-    let f = terms-done (a .text .now) (a .table .domain) (boundIn (a .text .now) (a .scope)) readTermList (c .before .before .before .before .before .before .before .before .before .before .before .before .before .before .end .given .0 .0) (memory (a .names .now) (a .work .now)) (a .to + 1) _ (c .before .before .before .before .before .before .before .before .before .before .read-arguments .result) (c .before .before .before .before .before .before .before .before .before .before .read-arguments .ensures) (c .before .before .before .before .before .before .next .given .0 .0) (c .before .before .before .before .before .before .next .given .0 .1 .0) (c .before .before .before .before .before .before .next .given .0 .1 .1 .0) (c .before .before .before .before .before .before .next .given .1) in
-    omega (arith, f .after, f .within)
+add-t31 c = omega (arith, bounds (c .before .before .before .before))
 
 returns : tie.Need-returns
 returns c =
+    let set-word = c .before .before .before .set-word in
+    let find = c .before .before .before .before .before .find in
+    let next = c .before .before .before .before .before .before .before .next in
+    let read-arguments = c .before .before .before .before .before .before .before .before .before .before .before .read-arguments in
+    let end = c .before .before .before .before .before .before .before .before .before .before .before .before .before .before .before .end in
+    let predicate-end = c .before .before .before .before .before .before .before .before .before .before .before .before .before .before .before .before .before .predicate-end in
     let a = c .before .before .before .before .before .before .before .before .before .before .before .before .before .before .before .before .before .before .before .before .before .args in
-    rw (c .before .before .before .set-word .ensures, c .atom-facts .ensures, c .before .before .before .before .before .find .ensures)
-    (atom-found (settingOf (a .text .now) (a .scope) (a .problem .now) (a .table)) (a .at) (memory (a .names .now) (a .work .now)) (a .to) (c .before .before .before .before .before .before .before .before .before .before .before .before .before .before .before .end .given .0 .0) (word-done (readName 5) (a .text .now) (a .at) (c .before .before .before .before .before .before .before .before .before .before .before .before .before .before .before .before .before .predicate-end .result) (c .before .before .before .before .before .before .before .before .before .before .before .before .before .before .before .before .before .predicate-end .ensures) (c .before .before .before .before .before .before .before .before .before .before .before .before .before .before .before .end .given .0 .0) (c .before .before .before .before .before .before .before .before .before .before .before .before .before .before .before .end .given .1)) (a .table .domain) _ _ _ _ _ (domain-table (a .problem .now) (a .table)) (terms-done (a .text .now) (a .table .domain) (boundIn (a .text .now) (a .scope)) readTermList (c .before .before .before .before .before .before .before .before .before .before .before .before .before .before .before .end .given .0 .0) (memory (a .names .now) (a .work .now)) (a .to + 1) _ (c .before .before .before .before .before .before .before .before .before .before .before .read-arguments .result) (c .before .before .before .before .before .before .before .before .before .before .before .read-arguments .ensures) (c .before .before .before .before .before .before .before .next .given .0 .0) (c .before .before .before .before .before .before .before .next .given .0 .1 .0) (c .before .before .before .before .before .before .before .next .given .0 .1 .1 .0) (c .before .before .before .before .before .before .before .next .given .1)))
+    rw (set-word .ensures, c .atom-facts .ensures, find .ensures)
+    (atom-found (settingOf (a .text .now) (a .scope) (a .problem .now) (a .table)) (a .at) (memory (a .names .now) (a .work .now)) (a .to) (end .given .0 .0) (word-done (readName 5) (a .text .now) (a .at) (predicate-end .result) (predicate-end .ensures) (end .given .0 .0) (end .given .1)) (a .table .domain) _ _ _ _ _ (domain-table (a .problem .now) (a .table)) (terms-done (a .text .now) (a .table .domain) (boundIn (a .text .now) (a .scope)) readTermList (end .given .0 .0) (memory (a .names .now) (a .work .now)) (a .to + 1) _ (read-arguments .result) (read-arguments .ensures) (next .given .0 .0) (next .given .0 .1 .0) (next .given .0 .1 .1 .0) (next .given .1)))
 
 returns-2 : tie.Need-returns-2
 returns-2 c =
+    let read-arguments = c .before .before .before .before .read-arguments in
+    let end = c .before .before .before .before .before .before .before .before .end in
+    let predicate-end = c .before .before .before .before .before .before .before .before .before .before .predicate-end in
     let a = c .before .before .before .before .before .before .before .before .before .before .before .before .before .before .args in
-    atom-refused (settingOf (a .text .now) (a .scope) (a .problem .now) (a .table)) (a .at) (memory (a .names .now) (a .work .now)) (a .to) (c .before .before .before .before .before .before .before .before .end .given .0 .0) (word-done (readName 5) (a .text .now) (a .at) (c .before .before .before .before .before .before .before .before .before .before .predicate-end .result) (c .before .before .before .before .before .before .before .before .before .before .predicate-end .ensures) (c .before .before .before .before .before .before .before .before .end .given .0 .0) (c .before .before .before .before .before .before .before .before .end .given .1))
-    (terms-malformed (a .text .now) (a .table .domain) (boundIn (a .text .now) (a .scope)) readTermList (c .before .before .before .before .before .before .before .before .end .given .0 .0) (memory (a .names .now) (a .work .now)) (a .to + 1) _ (c .before .before .before .before .read-arguments .result) (c .before .before .before .before .read-arguments .ensures) (c .enum-told .given .1))
+    atom-refused (settingOf (a .text .now) (a .scope) (a .problem .now) (a .table)) (a .at) (memory (a .names .now) (a .work .now)) (a .to) (end .given .0 .0) (word-done (readName 5) (a .text .now) (a .at) (predicate-end .result) (predicate-end .ensures) (end .given .0 .0) (end .given .1))
+    (terms-malformed (a .text .now) (a .table .domain) (boundIn (a .text .now) (a .scope)) readTermList (end .given .0 .0) (memory (a .names .now) (a .work .now)) (a .to + 1) _ (read-arguments .result) (read-arguments .ensures) (c .enum-told .given .1))
 
 returns-3 : tie.Need-returns-3
 returns-3 c =
+    let predicate-end = c .before .before .predicate-end in
     let a = c .before .before .before .before .before .before .args in
     atom-nameless (settingOf (a .text .now) (a .scope) (a .problem .now) (a .table)) (a .at) (memory (a .names .now) (a .work .now)) (a .to)
-    (word-malformed (readName 5) (a .text .now) (a .at) (c .before .before .predicate-end .result) (c .before .before .predicate-end .ensures) (c .enum-told2 .given .1))
+    (word-malformed (readName 5) (a .text .now) (a .at) (predicate-end .result) (predicate-end .ensures) (c .enum-told2 .given .1))
 
 pub read-atom-spec : {M : Type 1} → statement M
 read-atom-spec =

@@ -12,27 +12,34 @@ use Rattle.formula.proofs.leaf.read_equality.Tie as tie
 
 returns : tie.Need-returns
 returns c =
+    let next = c .before .before .next in
+    let closed-terms = c .before .before .before .before .before .before .closed-terms in
     let a = c .before .before .before .before .before .before .before .before .before .before .before .args in
     λ P index d.
     equality-other (a .text .now) (boundIn (a .text .now) (a .scope)) P index (a .domain) d (a .at) (memory (a .names .now) (a .work .now)) (a .to) _ _ _ _ _
-    (terms-done (a .text .now) (a .domain) (boundIn (a .text .now) (a .scope)) (closedUpTo 1) (a .at) (memory (a .names .now) (a .work .now)) (a .to + 1) _ (c .before .before .before .before .before .before .closed-terms .result) (c .before .before .before .before .before .before .closed-terms .ensures) (c .before .before .next .given .0 .0) (c .before .before .next .given .0 .1 .0) (c .before .before .next .given .0 .1 .1 .0) (c .before .before .next .given .1))
+    (terms-done (a .text .now) (a .domain) (boundIn (a .text .now) (a .scope)) (closedUpTo 1) (a .at) (memory (a .names .now) (a .work .now)) (a .to + 1) _ (closed-terms .result) (closed-terms .ensures) (next .given .0 .0) (next .given .0 .1 .0) (next .given .0 .1 .1 .0) (next .given .1))
     (c .if1 .taken)
 
 returns-2 : tie.Need-returns-2
 returns-2 c =
+    let set-word = c .before .before .before .set-word in
+    let if1 = c .before .before .before .before .before .if1 in
+    let next = c .before .before .before .before .before .before .before .next in
+    let closed-terms = c .before .before .before .before .before .before .before .before .before .before .before .closed-terms in
     let a = c .before .before .before .before .before .before .before .before .before .before .before .before .before .before .before .before .args in
     λ P index d.
-    rw (c .before .before .before .set-word .ensures, c .simple-facts .ensures)
+    rw (set-word .ensures, c .simple-facts .ensures)
     (equality-found (a .text .now) (boundIn (a .text .now) (a .scope)) P index (a .domain) d (a .at) (memory (a .names .now) (a .work .now)) (a .to) _ _ _ _ _
-    (terms-done (a .text .now) (a .domain) (boundIn (a .text .now) (a .scope)) (closedUpTo 1) (a .at) (memory (a .names .now) (a .work .now)) (a .to + 1) _ (c .before .before .before .before .before .before .before .before .before .before .before .closed-terms .result) (c .before .before .before .before .before .before .before .before .before .before .before .closed-terms .ensures) (c .before .before .before .before .before .before .before .next .given .0 .0) (c .before .before .before .before .before .before .before .next .given .0 .1 .0) (c .before .before .before .before .before .before .before .next .given .0 .1 .1 .0) (c .before .before .before .before .before .before .before .next .given .1))
-    (c .before .before .before .before .before .if1 .left))
+    (terms-done (a .text .now) (a .domain) (boundIn (a .text .now) (a .scope)) (closedUpTo 1) (a .at) (memory (a .names .now) (a .work .now)) (a .to + 1) _ (closed-terms .result) (closed-terms .ensures) (next .given .0 .0) (next .given .0 .1 .0) (next .given .0 .1 .1 .0) (next .given .1))
+    (if1 .left))
 
 returns-3 : tie.Need-returns-3
 returns-3 c =
+    let closed-terms = c .before .before .before .before .closed-terms in
     let a = c .before .before .before .before .before .before .before .before .before .args in
     λ P index d.
     equality-refused (a .text .now) (boundIn (a .text .now) (a .scope)) P index (a .domain) d (a .at) (memory (a .names .now) (a .work .now)) (a .to)
-    (terms-malformed (a .text .now) (a .domain) (boundIn (a .text .now) (a .scope)) (closedUpTo 1) (a .at) (memory (a .names .now) (a .work .now)) (a .to + 1) _ (c .before .before .before .before .closed-terms .result) (c .before .before .before .before .closed-terms .ensures) (c .enum-told .given .1))
+    (terms-malformed (a .text .now) (a .domain) (boundIn (a .text .now) (a .scope)) (closedUpTo 1) (a .at) (memory (a .names .now) (a .work .now)) (a .to + 1) _ (closed-terms .result) (closed-terms .ensures) (c .enum-told .given .1))
 
 pub read-equality-spec : {M : Type 1} → statement M
 read-equality-spec =

@@ -17,36 +17,64 @@ use Rattle.formula.proofs.leaf.read_leaf.Tie as tie
 
 returns : tie.Need-returns
 returns c =
-    let a = c .before .before .before .before .before .before .before .before .before .before .before .args in
-    rw (c .before .before .before .set-word .ensures, c .simple-facts .ensures)
-    (true-found (settingOf (a .text .now) (a .scope) (a .problem .now) (a .table)) (a .at) (c .before .before .before .before .before .before .before .before .before .before .before .pre .0) (a .names .now) (a .work .now) (a .to) (sym (c .before .before .before .before .before .before .begins-at .ensures) ∙ c .before .before .before .before .before .if1 .taken))
+    let set-word = c .before .before .before .set-word in
+    let if1 = c .before .before .before .before .before .if1 in
+    let begins-at = c .before .before .before .before .before .before .begins-at in
+    let start = c .before .before .before .before .before .before .before .before .before .before .before in
+    let a = start .args in
+    rw (set-word .ensures, c .simple-facts .ensures)
+    (true-found (settingOf (a .text .now) (a .scope) (a .problem .now) (a .table)) (a .at) (start .pre .0) (a .names .now) (a .work .now) (a .to) (sym (begins-at .ensures) ∙ if1 .taken))
 
 returns-2 : tie.Need-returns-2
 returns-2 c =
-    let a = c .before .before .before .before .before .before .before .before .before .before .before .before .before .before .args in
-    rw (c .before .before .before .set-word2 .ensures, c .simple-facts2 .ensures)
-    (false-found (settingOf (a .text .now) (a .scope) (a .problem .now) (a .table)) (a .at) (c .before .before .before .before .before .before .before .before .before .before .before .before .before .before .pre .0) (a .names .now) (a .work .now) (a .to) (sym (c .before .before .before .before .before .before .before .before .before .begins-at .ensures) ∙ c .before .before .before .before .before .before .before .before .if1 .left) (sym (c .before .before .before .before .before .before .begins-at2 .ensures) ∙ c .before .before .before .before .before .if2 .taken))
+    let set-word2 = c .before .before .before .set-word2 in
+    let if2 = c .before .before .before .before .before .if2 in
+    let begins-at2 = c .before .before .before .before .before .before .begins-at2 in
+    let if1 = c .before .before .before .before .before .before .before .before .if1 in
+    let begins-at = c .before .before .before .before .before .before .before .before .before .begins-at in
+    let start = c .before .before .before .before .before .before .before .before .before .before .before .before .before .before in
+    let a = start .args in
+    rw (set-word2 .ensures, c .simple-facts2 .ensures)
+    (false-found (settingOf (a .text .now) (a .scope) (a .problem .now) (a .table)) (a .at) (start .pre .0) (a .names .now) (a .work .now) (a .to) (sym (begins-at .ensures) ∙ if1 .left) (sym (begins-at2 .ensures) ∙ if2 .taken))
 
 read-equality-requires : tie.Need-read-equality-requires
 read-equality-requires c κs =
-    let a = c .before .before .before .before .before .before .before .before .before .before .before .before .before .before .args in
-    let h = word-found (a .text .now) (a .at) (bytes "=(") (c .before .before .before .before .before .before .before .before .before .before .before .before .before .before .pre .0) (sym (c .before .before .before .begins-at3 .ensures) ∙ c .before .before .if3 .taken) .within in
+    let begins-at3 = c .before .before .before .begins-at3 in
+    let start = c .before .before .before .before .before .before .before .before .before .before .before .before .before .before in
+    let a = start .args in
+    let h = word-found (a .text .now) (a .at) (bytes "=(") (start .pre .0) (sym (begins-at3 .ensures) ∙ c .before .before .if3 .taken) .within in
     (h, omega arith, omega arith, omega arith)
 
 returns-3 : tie.Need-returns-3
 returns-3 c =
-    let a = c .before .before .before .before .before .before .before .before .before .before .before .before .before .before .before .before .before .args in
+    let read-equality = c .before .before .read-equality in
+    let if3 = c .before .before .before .before .before .if3 in
+    let begins-at3 = c .before .before .before .before .before .before .begins-at3 in
+    let if2 = c .before .before .before .before .before .before .before .before .if2 in
+    let begins-at2 = c .before .before .before .before .before .before .before .before .before .begins-at2 in
+    let if1 = c .before .before .before .before .before .before .before .before .before .before .before .if1 in
+    let begins-at = c .before .before .before .before .before .before .before .before .before .before .before .before .begins-at in
+    let start = c .before .before .before .before .before .before .before .before .before .before .before .before .before .before .before .before .before in
+    let a = start .args in
     told-later (settingOf (a .text .now) (a .scope) (a .problem .now) (a .table)) readLeaf readEquality (a .at) (a .at + 2)
-    (equality-behind (settingOf (a .text .now) (a .scope) (a .problem .now) (a .table)) (a .at) (c .before .before .before .before .before .before .before .before .before .before .before .before .before .before .before .before .before .pre .0) (a .names .now) (a .work .now) (a .to) (sym (c .before .before .before .before .before .before .before .before .before .before .before .before .begins-at .ensures) ∙ c .before .before .before .before .before .before .before .before .before .before .before .if1 .left) (sym (c .before .before .before .before .before .before .before .before .before .begins-at2 .ensures) ∙ c .before .before .before .before .before .before .before .before .if2 .left) (sym (c .before .before .before .before .before .before .begins-at3 .ensures) ∙ c .before .before .before .before .before .if3 .taken))
-    (omega arith) (memory (a .names .now) (a .work .now)) (a .to) (c .before .before .read-equality .result) _
-    (c .before .before .read-equality .ensures (signatureOf (a .problem .now) (a .table)) _ (domain-table (a .problem .now) (a .table)))
+    (equality-behind (settingOf (a .text .now) (a .scope) (a .problem .now) (a .table)) (a .at) (start .pre .0) (a .names .now) (a .work .now) (a .to) (sym (begins-at .ensures) ∙ if1 .left) (sym (begins-at2 .ensures) ∙ if2 .left) (sym (begins-at3 .ensures) ∙ if3 .taken))
+    (omega arith) (memory (a .names .now) (a .work .now)) (a .to) (read-equality .result) _
+    (read-equality .ensures (signatureOf (a .problem .now) (a .table)) _ (domain-table (a .problem .now) (a .table)))
 
 returns-4 : tie.Need-returns-4
 returns-4 c =
-    let a = c .before .before .before .before .before .before .before .before .before .before .before .before .before .before .before .before .before .args in
+    let read-atom = c .before .before .read-atom in
+    let if3 = c .before .before .before .before .before .if3 in
+    let begins-at3 = c .before .before .before .before .before .before .begins-at3 in
+    let if2 = c .before .before .before .before .before .before .before .before .if2 in
+    let begins-at2 = c .before .before .before .before .before .before .before .before .before .begins-at2 in
+    let if1 = c .before .before .before .before .before .before .before .before .before .before .before .if1 in
+    let begins-at = c .before .before .before .before .before .before .before .before .before .before .before .before .begins-at in
+    let start = c .before .before .before .before .before .before .before .before .before .before .before .before .before .before .before .before .before in
+    let a = start .args in
     told-later (settingOf (a .text .now) (a .scope) (a .problem .now) (a .table)) readLeaf readAtom (a .at) (a .at)
-    (atom-behind (settingOf (a .text .now) (a .scope) (a .problem .now) (a .table)) (a .at) (c .before .before .before .before .before .before .before .before .before .before .before .before .before .before .before .before .before .pre .0) (a .names .now) (a .work .now) (a .to) (sym (c .before .before .before .before .before .before .before .before .before .before .before .before .begins-at .ensures) ∙ c .before .before .before .before .before .before .before .before .before .before .before .if1 .left) (sym (c .before .before .before .before .before .before .before .before .before .begins-at2 .ensures) ∙ c .before .before .before .before .before .before .before .before .if2 .left) (sym (c .before .before .before .before .before .before .begins-at3 .ensures) ∙ c .before .before .before .before .before .if3 .left))
-    (omega arith) (memory (a .names .now) (a .work .now)) (a .to) (c .before .before .read-atom .result) _ (c .before .before .read-atom .ensures)
+    (atom-behind (settingOf (a .text .now) (a .scope) (a .problem .now) (a .table)) (a .at) (start .pre .0) (a .names .now) (a .work .now) (a .to) (sym (begins-at .ensures) ∙ if1 .left) (sym (begins-at2 .ensures) ∙ if2 .left) (sym (begins-at3 .ensures) ∙ if3 .left))
+    (omega arith) (memory (a .names .now) (a .work .now)) (a .to) (read-atom .result) _ (read-atom .ensures)
 
 pub read-leaf-spec : {M : Type 1} → statement M
 read-leaf-spec =

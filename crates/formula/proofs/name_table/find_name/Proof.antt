@@ -27,24 +27,31 @@ loop-holds c =
 
 returns : tie.Need-returns Inv-loop μ-loop
 returns c =
+    let loop = c .before .before .before .loop in
+    let name-count = c .before .before .before .before .name-count in
+    let part = c .before .before .before .before .before .part in
     let a = c .before .before .before .before .before .before .before .args in
-    let l = c .before .before .before .loop in
-    let z = position-here (c .before .before .before .before .before .part .result .now) (nameIn (a .text .now) (a .names .now)) (l .i) (c .before .before .before .before .name-count .result - l .i) (omega arith) (sym (c .before .is-name .ensures) ∙ c .if1 .taken) in
+    let l = loop in
+    let z = position-here (part .result .now) (nameIn (a .text .now) (a .names .now)) (l .i) (name-count .result - l .i) (omega arith) (sym (c .before .is-name .ensures) ∙ c .if1 .taken) in
     rw (← l .inv .0, l .inv .3, z) (sym (add-zero (l .i)))
 
 loop-again : tie.Need-loop-again Inv-loop μ-loop
 loop-again c =
+    let loop = c .before .before .before .loop in
+    let name-count = c .before .before .before .before .name-count in
+    let part = c .before .before .before .before .before .part in
     let a = c .before .before .before .before .before .before .before .args in
-    let l = c .before .before .before .loop in
-    let e : c .before .before .before .before .name-count .result - l .i - 1 ≡ c .before .before .before .before .name-count .result - (l .i + 1) = omega arith in
-    let z = position-next (c .before .before .before .before .before .part .result .now) (nameIn (a .text .now) (a .names .now)) (l .i) (c .before .before .before .before .name-count .result - l .i) (omega arith) (sym (c .before .is-name .ensures) ∙ c .if1 .left) in
+    let l = loop in
+    let e : name-count .result - l .i - 1 ≡ name-count .result - (l .i + 1) = omega arith in
+    let z = position-next (part .result .now) (nameIn (a .text .now) (a .names .now)) (l .i) (name-count .result - l .i) (omega arith) (sym (c .before .is-name .ensures) ∙ c .if1 .left) in
     (l .inv .0, l .inv .1, omega arith, l .inv .3 ∙ rw z (rw e (omega arith)))
 
 returns-2 : tie.Need-returns-2 Inv-loop μ-loop
 returns-2 c =
+    let part = c .before .before .before .part in
     let a = c .before .before .before .before .before .args in
     let l = c .before .loop in
-    let z = position-none (c .before .before .before .part .result .now) (nameIn (a .text .now) (a .names .now)) (l .i) (c .before .before .name-count .result - l .i) (omega arith) in
+    let z = position-none (part .result .now) (nameIn (a .text .now) (a .names .now)) (l .i) (c .before .before .name-count .result - l .i) (omega arith) in
     rw (← l .inv .0, l .inv .3, z) (sym (add-zero (l .i)))
 
 pub find-name-spec : {M : Type 1} → statement M

@@ -5,7 +5,9 @@ use Rattle.formula.proofs.name_table.is_name.Statement.{statement}
 use Rattle.formula.proofs.name_table.is_name.Tie as tie
 
 returns : tie.Need-returns
-returns c = rw (c .equal .ensures, c .before .part .ensures, c .before .before .before .before .wide .ensures, c .before .before .wide2 .ensures)
+returns c =
+    let wide = c .before .before .before .before .wide in
+    rw (c .equal .ensures, c .before .part .ensures, wide .ensures, c .before .before .wide2 .ensures)
 
 pub is-name-spec : {M : Type 1} → statement M
 is-name-spec =

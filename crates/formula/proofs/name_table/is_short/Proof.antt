@@ -8,7 +8,8 @@ use Rattle.formula.proofs.name_table.is_short.Tie as tie
 returns : tie.Need-returns
 unfolding nameSize
 returns c =
-    rw (c .part .ensures, c .before .before .before .wide .ensures, c .before .wide2 .ensures)
+    let wide = c .before .before .before .wide in
+    rw (c .part .ensures, wide .ensures, c .before .wide2 .ensures)
 
 pub is-short-spec : {M : Type 1} → statement M
 is-short-spec =

@@ -71,10 +71,16 @@ emit-clause-returns-2 t c =
 
 emit-clause-returns-3 : (t : ℕ) → emit-clause-lts.Need-returns-3 (emit-clause-calls t) (emit-clause-at t) emit-clause.Post
 emit-clause-returns-3 t c =
+    let emit-parts-told = c .before .before .before .before .before .before .emit-parts in
+    let subformula-count = c .before .before .before .before .before .before .before .before .subformula-count in
+    let emit-opening = c .before .before .before .before .before .before .before .before .before .before .before .emit-opening in
+    let kind-of = c .before .before .before .before .before .before .before .before .before .before .before .before .before .kind-of in
+    let if2 = c .before .before .before .before .before .before .before .before .before .before .before .before .before .before .before .if2 in
+    let if1 = c .before .before .before .before .before .before .before .before .before .before .before .before .before .before .before .before .if1 in
     let a = c .before .before .before .before .before .before .before .before .before .before .before .before .before .before .before .before .before .before .before .before .before .args in
-    print-as (clause-kind (a .problem .now) (a .table) (a .work .now) (a .at) (a .levels) _ (c .before .before .before .before .before .before .before .before .before .before .before .before .before .before .before .before .if1 .left) (c .before .before .before .before .before .before .before .before .before .before .before .before .before .before .before .if2 .left) (sym (c .before .before .before .before .before .before .before .before .before .before .before .before .before .kind-of .ensures)))
-    (print-then (c .before .before .before .before .before .before .before .before .before .before .before .emit-opening .ensures)
-    (print-then (print-as (ap (λ (n : ℕ). joined 44 (partTexts (clauseText (a .problem .now) (a .table) (a .levels - 1)) n (drop (a .at + 1) (a .work .now)))) (sym (c .before .before .before .before .before .before .before .before .subformula-count .ensures))) (c .before .before .before .before .before .before .emit-parts .ensures))
+    print-as (clause-kind (a .problem .now) (a .table) (a .work .now) (a .at) (a .levels) _ (if1 .left) (if2 .left) (sym (kind-of .ensures)))
+    (print-then (emit-opening .ensures)
+    (print-then (print-as (ap (λ (n : ℕ). joined 44 (partTexts (clauseText (a .problem .now) (a .table) (a .levels - 1)) n (drop (a .at + 1) (a .work .now)))) (sym (subformula-count .ensures))) (emit-parts-told .ensures))
     (c .before .before .emit-closing .ensures)))
 
 abbrev emit-parts-Inv-loop : emit-parts-lts.InvT-loop
@@ -95,30 +101,41 @@ emit-parts-loop-holds : (t : ℕ) → emit-parts-lts.Need-loop-holds (emit-parts
 emit-parts-loop-holds t c = (c .past .ensures .1, refl, remains-all)
 
 emit-parts-past-requires-2 : (t : ℕ) → emit-parts-lts.Need-past-requires-2 (emit-parts-calls t) (emit-parts-at t) emit-parts.Post emit-parts-Inv-loop emit-parts-μ-loop
-emit-parts-past-requires-2 t c κs = omega (arith, c .before .before .before .before .before .before .before .before .before .before .before .before .before .before .before .before .before .before .before .before .pre, c .before .before .before .before .before .before .before .before .before .loop .inv .0)
+emit-parts-past-requires-2 t c κs =
+    let loop = c .before .before .before .before .before .before .before .before .before .loop in
+    let start = c .before .before .before .before .before .before .before .before .before .before .before .before .before .before .before .before .before .before .before .before in
+    omega (arith, start .pre, loop .inv .0)
 
 emit-parts-loop-again : (t : ℕ) → emit-parts-lts.Need-loop-again (emit-parts-calls t) (emit-parts-at t) emit-parts.Post emit-parts-Inv-loop emit-parts-μ-loop
 emit-parts-loop-again t c =
+    let emit-clause2 = c .before .before .before .emit-clause2 in
+    let emit = c .before .before .before .before .before .before .before .emit in
+    let loop-test = c .before .before .before .before .before .before .before .before .before .loop-test in
+    let loop = c .before .before .before .before .before .before .before .before .before .before .loop in
     let a = c .before .before .before .before .before .before .before .before .before .before .before .before .before .before .before .before .before .before .before .before .before .args in
-    let l = c .before .before .before .before .before .before .before .before .before .before .loop in
+    let l = loop in
     let t = clauseText (a .problem .now) (a .table) (a .levels) in (
       c .past2 .ensures .1,
-      c .before .before .before .emit-clause2 .kept .1 .1 .1 .1 .1 .1 .1 .1 .0 ∙ (c .before .before .before .before .before .before .before .emit .kept .1 .1 .1 .1 .0 ∙ l .inv .1),
+      emit-clause2 .kept .1 .1 .1 .1 .1 .1 .1 .1 .0 ∙ (emit .kept .1 .1 .1 .1 .0 ∙ l .inv .1),
       remains-next (l .inv .2)
-          (parts-more (a .work .now) (l .i) (l .pending) (c .before .before .before .before .before .before .before .before .before .loop-test .taken) t ∙ ap (λ (j : ℕ). t (drop (l .i) (a .work .now)) ∷ partTexts t (l .pending - 1) (drop j (a .work .now))) (sym (c .past2 .ensures .0)))
-          (c .before .before .before .before .before .before .before .emit .ensures) (c .before .before .before .emit-clause2 .ensures),
+          (parts-more (a .work .now) (l .i) (l .pending) (loop-test .taken) t ∙ ap (λ (j : ℕ). t (drop (l .i) (a .work .now)) ∷ partTexts t (l .pending - 1) (drop j (a .work .now))) (sym (c .past2 .ensures .0)))
+          (emit .ensures) (emit-clause2 .ensures),
     )
 
 emit-parts-same-length : (t : ℕ) → emit-parts-lts.Need-same-length (emit-parts-calls t) (emit-parts-at t) emit-parts.Post emit-parts-Inv-loop emit-parts-μ-loop
-emit-parts-same-length t c = c .before .loop .inv .1 ∙ c .before .before .before .before .before .emit-clause .kept .1 .1 .1 .1 .1 .1 .1 .1 .0
+emit-parts-same-length t c =
+    let emit-clause-told = c .before .before .before .before .before .emit-clause in
+    c .before .loop .inv .1 ∙ emit-clause-told .kept .1 .1 .1 .1 .1 .1 .1 .1 .0
 
 emit-parts-returns-2 : (t : ℕ) → emit-parts-lts.Need-returns-2 (emit-parts-calls t) (emit-parts-at t) emit-parts.Post emit-parts-Inv-loop emit-parts-μ-loop
 emit-parts-returns-2 t c =
+    let emit-clause-told = c .before .before .before .before .before .emit-clause in
+    let if1 = c .before .before .before .before .before .before .before .if1 in
     let a = c .before .before .before .before .before .before .before .before .before .before .before .before .args in
     let l = c .before .loop in
     let t = clauseText (a .problem .now) (a .table) (a .levels) in
-    print-as (ap (joined 44) (parts-more (a .work .now) (a .at) (a .count) (omega (arith, c .before .before .before .before .before .before .before .if1 .left)) t ∙ ap (λ (j : ℕ). t (drop (a .at) (a .work .now)) ∷ partTexts t (a .count - 1) (drop j (a .work .now))) (sym (c .before .before .past .ensures .0))))
-    (print-then (c .before .before .before .before .before .emit-clause .ensures) (remains-last (l .inv .2) (parts-none t (l .pending) (drop (l .i) (a .work .now)) (omega arith))))
+    print-as (ap (joined 44) (parts-more (a .work .now) (a .at) (a .count) (omega (arith, if1 .left)) t ∙ ap (λ (j : ℕ). t (drop (a .at) (a .work .now)) ∷ partTexts t (a .count - 1) (drop j (a .work .now))) (sym (c .before .before .past .ensures .0))))
+    (print-then (emit-clause-told .ensures) (remains-last (l .inv .2) (parts-none t (l .pending) (drop (l .i) (a .work .now)) (omega arith))))
 
 pub +emit-clause+emit-parts-spec : {M : Type 1} → statement M
 +emit-clause+emit-parts-spec = close μ-emit-clause μ-emit-parts (λ t. emit-clause-lts.spec (emit-clause-calls t)

@@ -10,14 +10,19 @@ use Rattle.formula.proofs.print.emit_atom.Tie as tie
 
 returns : tie.Need-returns
 returns c =
+    let emit-name = c .before .before .before .emit-name in
     let a = c .before .before .before .before .before .before .before .before .before .args in
-    print-as (atom-plain (a .problem .now) (a .table) (a .predicate) (a .count) (drop (a .at) (a .work .now)) (c .if1 .taken)) (c .before .before .before .emit-name .ensures)
+    print-as (atom-plain (a .problem .now) (a .table) (a .predicate) (a .count) (drop (a .at) (a .work .now)) (c .if1 .taken)) (emit-name .ensures)
 
 returns-2 : tie.Need-returns-2
 returns-2 c =
+    let emit-elements = c .before .before .before .before .before .before .emit-elements in
+    let emit = c .before .before .before .before .before .before .before .before .before .before .emit in
+    let if1 = c .before .before .before .before .before .before .before .before .before .before .before .before .if1 in
+    let emit-name = c .before .before .before .before .before .before .before .before .before .before .before .before .before .before .before .emit-name in
     let a = c .before .before .before .before .before .before .before .before .before .before .before .before .before .before .before .before .before .before .before .before .before .args in
-    print-as (atom-listed (a .problem .now) (a .table) (a .predicate) (a .count) (drop (a .at) (a .work .now)) (c .before .before .before .before .before .before .before .before .before .before .before .before .if1 .left))
-    (print-then (c .before .before .before .before .before .before .before .before .before .before .before .before .before .before .before .emit-name .ensures) (print-then (c .before .before .before .before .before .before .before .before .before .before .emit .ensures) (print-then (c .before .before .before .before .before .before .emit-elements .ensures) (c .before .before .emit2 .ensures))))
+    print-as (atom-listed (a .problem .now) (a .table) (a .predicate) (a .count) (drop (a .at) (a .work .now)) (if1 .left))
+    (print-then (emit-name .ensures) (print-then (emit .ensures) (print-then (emit-elements .ensures) (c .before .before .emit2 .ensures))))
 
 pub emit-atom-spec : {M : Type 1} → statement M
 emit-atom-spec =

@@ -24,7 +24,10 @@ returns-5 : tie.Need-returns-5
 returns-5 c = print-nothing (ap signClosing (c .enum-told4 .given .1))
 
 returns-6 : tie.Need-returns-6
-returns-6 c = print-as (closing-any _ _ (c .before .before .before .before .before .before .sign .given .1) (c .before .before .before .before .if1 .left)) (c .before .before .emit .ensures)
+returns-6 c =
+    let if1 = c .before .before .before .before .if1 in
+    let sign = c .before .before .before .before .before .before .sign in
+    print-as (closing-any _ _ (sign .given .1) (if1 .left)) (c .before .before .emit .ensures)
 
 pub emit-bracket-spec : {M : Type 1} → statement M
 emit-bracket-spec =

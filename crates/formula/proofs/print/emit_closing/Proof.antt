@@ -17,7 +17,9 @@ returns-3 : tie.Need-returns-3
 returns-3 c = print-nothing (ap closing (c .enum-told3 .given .1))
 
 returns-4 : tie.Need-returns-4
-returns-4 c = print-as (ap closing (c .before .before .before .before .before .kind .given .1)) (c .before .before .emit-bracket .ensures)
+returns-4 c =
+    let kind = c .before .before .before .before .before .kind in
+    print-as (ap closing (kind .given .1)) (c .before .before .emit-bracket .ensures)
 
 returns-5 : tie.Need-returns-5
 returns-5 c = print-nothing (ap closing (c .enum-told4 .given .1))

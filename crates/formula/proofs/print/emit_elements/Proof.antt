@@ -22,33 +22,48 @@ abbrev μ-loop : tie.MeasureT-loop
 μ-loop work at count claim store out₀ last₀ i₀ pending₀ out last i pending = pending
 
 returns : tie.Need-returns Inv-loop μ-loop
-returns c = print-nothing (ap (joined 44) (elements-none (c .before .before .before .before .args .count) (drop (c .before .before .before .before .args .at) (c .before .before .before .before .args .work .now)) (c .if1 .taken)))
+returns c =
+    let start = c .before .before .before .before in
+    print-nothing (ap (joined 44) (elements-none (start .args .count) (drop (start .args .at) (start .args .work .now)) (c .if1 .taken)))
 
 loop-holds : tie.Need-loop-holds Inv-loop μ-loop
 loop-holds c = (omega arith, refl, refl, remains-all)
 
 add-i-2 : tie.Need-add-i-2 Inv-loop μ-loop
-add-i-2 c = omega (arith, c .before .before .before .before .before .before .before .before .before .before .before .before .before .before .before .before .before .before .before .before .pre, c .before .before .before .before .before .before .before .before .before .before .loop .inv .1, c .before .before .before .before .before .before .before .before .before .before .loop .inv .0)
+add-i-2 c =
+    let loop = c .before .before .before .before .before .before .before .before .before .before .loop in
+    let start = c .before .before .before .before .before .before .before .before .before .before .before .before .before .before .before .before .before .before .before .before in
+    omega (arith, start .pre, loop .inv .1, loop .inv .0)
 
 loop-again : tie.Need-loop-again Inv-loop μ-loop
 loop-again c =
-    let l = c .before .before .before .before .before .before .before .before .before .before .loop in (
+    let emit-number2 = c .before .before .emit-number2 in
+    let element-at2 = c .before .before .before .before .element-at2 in
+    let emit = c .before .before .before .before .before .before .before .emit in
+    let loop-test = c .before .before .before .before .before .before .before .before .before .loop-test in
+    let loop = c .before .before .before .before .before .before .before .before .before .before .loop in
+    let l = loop in (
       omega arith,
       omega arith,
-      c .before .before .emit-number2 .kept .1 .1 .1 .1 .0 ∙ (c .before .before .before .before .before .before .before .emit .kept .1 .1 .1 .1 .0 ∙ l .inv .2),
-      remains-next (l .inv .3) (elements-more (c .before .before .before .before .before .before .before .before .before .before .before .before .before .before .before .before .before .before .before .before .args .work .now) (l .i) (l .pending) (c .before .before .before .before .before .before .before .before .before .loop-test .taken)) (c .before .before .before .before .before .before .before .emit .ensures)
-          (print-as (ap decimal (sym (c .before .before .before .before .element-at2 .ensures))) (c .before .before .emit-number2 .ensures)),
+      emit-number2 .kept .1 .1 .1 .1 .0 ∙ (emit .kept .1 .1 .1 .1 .0 ∙ l .inv .2),
+      remains-next (l .inv .3) (elements-more (c .before .before .before .before .before .before .before .before .before .before .before .before .before .before .before .before .before .before .before .before .args .work .now) (l .i) (l .pending) (loop-test .taken)) (emit .ensures)
+          (print-as (ap decimal (sym (element-at2 .ensures))) (emit-number2 .ensures)),
     )
 
 same-length : tie.Need-same-length Inv-loop μ-loop
-same-length c = c .before .loop .inv .2 ∙ c .before .before .before .before .emit-number .kept .1 .1 .1 .1 .0
+same-length c =
+    let emit-number = c .before .before .before .before .emit-number in
+    c .before .loop .inv .2 ∙ emit-number .kept .1 .1 .1 .1 .0
 
 returns-2 : tie.Need-returns-2 Inv-loop μ-loop
 returns-2 c =
+    let emit-number = c .before .before .before .before .emit-number in
+    let element-at = c .before .before .before .before .before .before .element-at in
+    let if1 = c .before .before .before .before .before .before .before .if1 in
     let a = c .before .before .before .before .before .before .before .before .before .before .before .args in
     let l = c .before .loop in
-    print-as (ap (joined 44) (elements-more (a .work .now) (a .at) (a .count) (omega (arith, c .before .before .before .before .before .before .before .if1 .left))))
-    (print-then (print-as (ap decimal (sym (c .before .before .before .before .before .before .element-at .ensures))) (c .before .before .before .before .emit-number .ensures))
+    print-as (ap (joined 44) (elements-more (a .work .now) (a .at) (a .count) (omega (arith, if1 .left))))
+    (print-then (print-as (ap decimal (sym (element-at .ensures))) (emit-number .ensures))
     (remains-last (l .inv .3) (elements-none (l .pending) (drop (l .i) (a .work .now)) (omega arith))))
 
 pub emit-elements-spec : {M : Type 1} → statement M

@@ -25,19 +25,26 @@ loop-holds : tie.Need-loop-holds Inv-loop μ-loop
 loop-holds c = (omega arith, refl, remains-all)
 
 past-requires : tie.Need-past-requires Inv-loop μ-loop
-past-requires c κs = omega (arith, c .before .before .before .before .before .before .before .before .before .before .before .before .before .before .pre, c .before .before .before .before .before .before .before .before .before .loop .inv .0)
+past-requires c κs =
+    let loop = c .before .before .before .before .before .before .before .before .before .loop in
+    let start = c .before .before .before .before .before .before .before .before .before .before .before .before .before .before in
+    omega (arith, start .pre, loop .inv .0)
 
 loop-again : tie.Need-loop-again Inv-loop μ-loop
 loop-again c =
+    let emit = c .before .before .before .emit in
+    let emit-clause = c .before .before .before .before .before .before .before .emit-clause in
+    let loop-test = c .before .before .before .before .before .before .before .before .before .loop-test in
+    let loop = c .before .before .before .before .before .before .before .before .before .before .loop in
     let a = c .before .before .before .before .before .before .before .before .before .before .before .before .before .before .before .args in
-    let l = c .before .before .before .before .before .before .before .before .before .before .loop in
+    let l = loop in
     let t = clauseText (a .problem .now) (a .table) (a .levels) (drop (l .i) (a .work .now)) ++ bytes "\n" in (
       c .past .ensures .1,
-      c .before .before .before .emit .kept .1 .1 .1 .1 .0 ∙ (c .before .before .before .before .before .before .before .emit-clause .kept .1 .1 .1 .1 .1 .1 .1 .1 .0 ∙ l .inv .1),
+      emit .kept .1 .1 .1 .1 .0 ∙ (emit-clause .kept .1 .1 .1 .1 .1 .1 .1 .1 .0 ∙ l .inv .1),
       remains-then (l .inv .2)
-          (lines-more (a .work .now) (l .i) (l .pending) (c .before .before .before .before .before .before .before .before .before .loop-test .taken) (a .problem .now) (a .table) (a .levels)
+          (lines-more (a .work .now) (l .i) (l .pending) (loop-test .taken) (a .problem .now) (a .table) (a .levels)
           ∙ ap (λ (j : ℕ). t ++ clauseLines (a .problem .now) (a .table) (a .levels) (l .pending - 1) (drop j (a .work .now))) (sym (c .past .ensures .0)))
-          (print-then (c .before .before .before .before .before .before .before .emit-clause .ensures) (c .before .before .before .emit .ensures)),
+          (print-then (emit-clause .ensures) (emit .ensures)),
     )
 
 same-length : tie.Need-same-length Inv-loop μ-loop

@@ -7,7 +7,11 @@ use Rattle.formula.proofs.print.emit_name.Statement.{statement}
 use Rattle.formula.proofs.print.emit_name.Tie as tie
 
 returns : tie.Need-returns
-returns c = print-as (sym (c .before .before .before .before .part .ensures ∙ rw (c .before .before .before .before .before .before .entry .ensures, c .before .before .before .before .before .entry2 .ensures))) (c .before .before .emit-all .ensures)
+returns c =
+    let part = c .before .before .before .before .part in
+    let entry2 = c .before .before .before .before .before .entry2 in
+    let entry = c .before .before .before .before .before .before .entry in
+    print-as (sym (part .ensures ∙ rw (entry .ensures, entry2 .ensures))) (c .before .before .emit-all .ensures)
 
 pub emit-name-spec : {M : Type 1} → statement M
 emit-name-spec =

@@ -7,22 +7,37 @@ use Rattle.formula.proofs.print.emit_opening.Statement.{statement}
 use Rattle.formula.proofs.print.emit_opening.Tie as tie
 
 returns : tie.Need-returns
-returns c = print-as (opening-kind (c .before .before .before .before .before .before .before .before .before .before .before .args .problem .now) (c .before .before .before .before .before .before .before .before .before .before .before .args .table) _ _ _ (c .before .before .before .before .before .kind .given .1)) (c .before .before .emit-truth .ensures)
+returns c =
+    let kind = c .before .before .before .before .before .kind in
+    let start = c .before .before .before .before .before .before .before .before .before .before .before in
+    print-as (opening-kind (start .args .problem .now) (start .args .table) _ _ _ (kind .given .1)) (c .before .before .emit-truth .ensures)
 
 returns-2 : tie.Need-returns-2
-returns-2 c = print-as (opening-kind (c .before .before .before .before .before .before .before .before .before .before .before .args .problem .now) (c .before .before .before .before .before .before .before .before .before .before .before .args .table) _ _ _ (c .before .before .before .before .before .kind2 .given .1)) (c .before .before .emit-atom .ensures)
+returns-2 c =
+    let kind2 = c .before .before .before .before .before .kind2 in
+    let start = c .before .before .before .before .before .before .before .before .before .before .before in
+    print-as (opening-kind (start .args .problem .now) (start .args .table) _ _ _ (kind2 .given .1)) (c .before .before .emit-atom .ensures)
 
 returns-3 : tie.Need-returns-3
-returns-3 c = print-nothing (opening-kind (c .before .before .before .before .before .before .args .problem .now) (c .before .before .before .before .before .before .args .table) _ _ _ (c .enum-told .given .1))
+returns-3 c =
+    let start = c .before .before .before .before .before .before in
+    print-nothing (opening-kind (start .args .problem .now) (start .args .table) _ _ _ (c .enum-told .given .1))
 
 returns-4 : tie.Need-returns-4
-returns-4 c = print-as (opening-kind (c .before .before .before .before .before .before .before .before .before .before .before .args .problem .now) (c .before .before .before .before .before .before .before .before .before .before .before .args .table) _ _ _ (c .before .before .before .before .before .kind3 .given .1)) (c .before .before .emit-sign .ensures)
+returns-4 c =
+    let kind3 = c .before .before .before .before .before .kind3 in
+    let start = c .before .before .before .before .before .before .before .before .before .before .before in
+    print-as (opening-kind (start .args .problem .now) (start .args .table) _ _ _ (kind3 .given .1)) (c .before .before .emit-sign .ensures)
 
 returns-5 : tie.Need-returns-5
-returns-5 c = print-nothing (opening-kind (c .before .before .before .before .before .before .args .problem .now) (c .before .before .before .before .before .before .args .table) _ _ _ (c .enum-told2 .given .1))
+returns-5 c =
+    let start = c .before .before .before .before .before .before in
+    print-nothing (opening-kind (start .args .problem .now) (start .args .table) _ _ _ (c .enum-told2 .given .1))
 
 returns-6 : tie.Need-returns-6
-returns-6 c = print-nothing (opening-kind (c .before .before .before .before .before .before .args .problem .now) (c .before .before .before .before .before .before .args .table) _ _ _ (c .enum-told3 .given .1))
+returns-6 c =
+    let start = c .before .before .before .before .before .before in
+    print-nothing (opening-kind (start .args .problem .now) (start .args .table) _ _ _ (c .enum-told3 .given .1))
 
 pub emit-opening-spec : {M : Type 1} → statement M
 emit-opening-spec =

@@ -12,7 +12,9 @@ returns : tie.Need-returns
 returns c = print-nothing (opening-all _ _ (c .before .before .sign .given .1) (c .if1 .taken))
 
 returns-2 : tie.Need-returns-2
-returns-2 c = print-as (ap signOpening (c .before .before .before .before .enum-told .given .1)) (c .before .before .emit .ensures)
+returns-2 c =
+    let enum-told = c .before .before .before .before .enum-told in
+    print-as (ap signOpening (enum-told .given .1)) (c .before .before .emit .ensures)
 
 returns-3 : tie.Need-returns-3
 returns-3 c = print-nothing (ap signOpening (c .enum-told2 .given .1))
@@ -24,7 +26,10 @@ returns-5 : tie.Need-returns-5
 returns-5 c = print-nothing (ap signOpening (c .enum-told4 .given .1))
 
 returns-6 : tie.Need-returns-6
-returns-6 c = print-as (opening-any _ _ (c .before .before .before .before .before .before .before .sign .given .1) (c .before .before .before .before .before .if1 .left)) (c .before .before .emit-all .ensures)
+returns-6 c =
+    let if1 = c .before .before .before .before .before .if1 in
+    let sign = c .before .before .before .before .before .before .before .sign in
+    print-as (opening-any _ _ (sign .given .1) (if1 .left)) (c .before .before .emit-all .ensures)
 
 pub emit-sign-spec : {M : Type 1} → statement M
 emit-sign-spec =

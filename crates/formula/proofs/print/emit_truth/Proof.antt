@@ -8,10 +8,14 @@ use Rattle.formula.proofs.print.emit_truth.Statement.{statement}
 use Rattle.formula.proofs.print.emit_truth.Tie as tie
 
 returns : tie.Need-returns
-returns c = print-as (ap truthText (c .before .before .before .before .before .if1 .taken)) (c .before .before .emit-all .ensures)
+returns c =
+    let if1 = c .before .before .before .before .before .if1 in
+    print-as (ap truthText (if1 .taken)) (c .before .before .emit-all .ensures)
 
 returns-2 : tie.Need-returns-2
-returns-2 c = print-as (ap truthText (c .before .before .before .before .before .if1 .left)) (c .before .before .emit-all2 .ensures)
+returns-2 c =
+    let if1 = c .before .before .before .before .before .if1 in
+    print-as (ap truthText (if1 .left)) (c .before .before .emit-all2 .ensures)
 
 pub emit-truth-spec : {M : Type 1} → statement M
 emit-truth-spec =

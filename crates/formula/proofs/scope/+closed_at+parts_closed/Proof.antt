@@ -73,44 +73,55 @@ closed-at-returns-2 t c =
 
 closed-at-returns-3 : (t : ℕ) → closed-at-lts.Need-returns-3 (closed-at-calls t) (closed-at-at t) closed-at.Post
 closed-at-returns-3 t c =
+    let if1 = c .before .before .before .before .before .if1 in
     let a = c .before .before .before .before .before .before .before .args in
-    let some = c .before .before .before .before .before .if1 .left in
+    let some = if1 .left in
     let told = sym (c .before .before .kind-of .ensures) ∙ c .enum-told .given .1 in
     closed-truth (a .work .now) (a .at) (a .levels) (a .flags) some _ told
 
 closed-at-returns-4 : (t : ℕ) → closed-at-lts.Need-returns-4 (closed-at-calls t) (closed-at-at t) closed-at.Post
 closed-at-returns-4 t c =
+    let kind-of = c .before .before .before .before .kind-of in
+    let if1 = c .before .before .before .before .before .before .before .if1 in
     let a = c .before .before .before .before .before .before .before .before .before .args in
-    let some = c .before .before .before .before .before .before .before .if1 .left in
-    let told = sym (c .before .before .before .before .kind-of .ensures) ∙ c .before .before .terms .given .1 in
+    let some = if1 .left in
+    let told = sym (kind-of .ensures) ∙ c .before .before .terms .given .1 in
     c .terms-closed .ensures ∙ sym (closed-atom (a .work .now) (a .at) (a .levels) (a .flags) some _ _ told)
 
 closed-at-returns-5 : (t : ℕ) → closed-at-lts.Need-returns-5 (closed-at-calls t) (closed-at-at t) closed-at.Post
 closed-at-returns-5 t c =
+    let kind-of = c .before .before .before .kind-of in
+    let if1 = c .before .before .before .before .before .before .if1 in
     let a = c .before .before .before .before .before .before .before .before .args in
-    let some = c .before .before .before .before .before .before .if1 .left in
-    let told = sym (c .before .before .before .kind-of .ensures) ∙ c .before .enum-told2 .given .1 in
+    let some = if1 .left in
+    let told = sym (kind-of .ensures) ∙ c .before .enum-told2 .given .1 in
     c .terms-closed2 .ensures ∙ sym (closed-equal (a .work .now) (a .at) (a .levels) (a .flags) some told)
 
 closed-at-returns-6 : (t : ℕ) → closed-at-lts.Need-returns-6 (closed-at-calls t) (closed-at-at t) closed-at.Post
 closed-at-returns-6 t c =
+    let kind-of = c .before .before .before .before .kind-of in
+    let if1 = c .before .before .before .before .before .before .before .if1 in
     let a = c .before .before .before .before .before .before .before .before .before .args in
-    let some = c .before .before .before .before .before .before .before .if1 .left in
-    let told = sym (c .before .before .before .before .kind-of .ensures) ∙ c .before .before .parts .given .1 in
+    let some = if1 .left in
+    let told = sym (kind-of .ensures) ∙ c .before .before .parts .given .1 in
     c .parts-closed .ensures ∙ sym (closed-connective (a .work .now) (a .at) (a .levels) (a .flags) some _ _ told)
 
 closed-at-returns-7 : (t : ℕ) → closed-at-lts.Need-returns-7 (closed-at-calls t) (closed-at-at t) closed-at.Post
 closed-at-returns-7 t c =
+    let variable = c .before .before .before .variable in
+    let kind-of = c .before .before .before .before .before .kind-of in
+    let if1 = c .before .before .before .before .before .before .before .before .if1 in
     let a = c .before .before .before .before .before .before .before .before .before .before .args in
-    let some = c .before .before .before .before .before .before .before .before .if1 .left in
-    let told = sym (c .before .before .before .before .before .kind-of .ensures) ∙ c .before .before .before .variable .given .1 in
+    let some = if1 .left in
+    let told = sym (kind-of .ensures) ∙ variable .given .1 in
     c .parts-closed2 .ensures ∙ ap (λ (m : List Bool). allClosedAt (a .levels - 1) m 2 (drop (a .at + 1) (a .work .now))) (c .before .with-flag .ensures)
     ∙ sym (closed-quantifier (a .work .now) (a .at) (a .levels) (a .flags) some _ _ (search needs) told)
 
 closed-at-returns-8 : (t : ℕ) → closed-at-lts.Need-returns-8 (closed-at-calls t) (closed-at-at t) closed-at.Post
 closed-at-returns-8 t c =
+    let if1 = c .before .before .before .before .before .if1 in
     let a = c .before .before .before .before .before .before .before .args in
-    let some = c .before .before .before .before .before .if1 .left in
+    let some = if1 .left in
     let told = sym (c .before .before .kind-of .ensures) ∙ c .enum-told3 .given .1 in
     closed-term (a .work .now) (a .at) (a .levels) (a .flags) some told
 
@@ -126,15 +137,17 @@ parts-closed-loop-holds t c = (omega arith, refl)
 
 parts-closed-returns : (t : ℕ) → parts-closed-lts.Need-returns (parts-closed-calls t) (parts-closed-at t) parts-closed.Post parts-closed-Inv-loop parts-closed-μ-loop
 parts-closed-returns t c =
+    let loop = c .before .before .before .loop in
     let a = c .before .before .before .before .before .args in
-    let l = c .before .before .before .loop in
+    let l = loop in
     let free = sym (c .before .closed-at .ensures) ∙ not-true _ (c .if1 .taken) in
     sym (l .inv .1 ∙ allClosed-stop (a .work .now) (l .i) (l .pending) (a .flags) (omega arith) (a .levels) free)
 
 parts-closed-loop-again : (t : ℕ) → parts-closed-lts.Need-loop-again (parts-closed-calls t) (parts-closed-at t) parts-closed.Post parts-closed-Inv-loop parts-closed-μ-loop
 parts-closed-loop-again t c =
+    let loop = c .before .before .before .before .loop in
     let a = c .before .before .before .before .before .before .args in
-    let l = c .before .before .before .before .loop in
+    let l = loop in
     let shut = sym (c .before .before .closed-at .ensures) ∙ not-false _ (c .before .if1 .left) in
     let next = c .past .ensures in (
       next .1,

@@ -25,15 +25,17 @@ loop-holds c = (omega arith, refl, refl)
 
 returns : tie.Need-returns Inv-loop μ-loop
 returns c =
+    let loop = c .before .before .before .before .loop in
     let a = c .before .before .before .before .before .before .args in
-    let l = c .before .before .before .before .loop in
+    let l = loop in
     let e = ap (λ (w : ℕ). termClosed (flagged (a .flags)) (termOf indexName w)) (sym (c .before .before .peek .ensures)) ∙ sym (c .before .term-closed .ensures) in
     sym (l .inv .2 ∙ termsClosed-stop (a .work .now) (l .i) (l .pending) (a .flags) (omega arith) (e ∙ not-true _ (c .if1 .taken)))
 
 loop-again : tie.Need-loop-again Inv-loop μ-loop
 loop-again c =
+    let loop = c .before .before .before .before .loop in
     let a = c .before .before .before .before .before .before .args in
-    let l = c .before .before .before .before .loop in
+    let l = loop in
     let e = ap (λ (w : ℕ). termClosed (flagged (a .flags)) (termOf indexName w)) (sym (c .before .before .peek .ensures)) ∙ sym (c .before .term-closed .ensures) in
     (omega arith, omega arith, l .inv .2 ∙ termsClosed-more (a .work .now) (l .i) (l .pending) (a .flags) (omega arith) (e ∙ not-false _ (c .if1 .left)))
 

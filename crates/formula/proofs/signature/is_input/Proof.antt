@@ -25,16 +25,18 @@ loop-holds c =
 
 returns : tie.Need-returns Inv-loop μ-loop
 returns c =
+    let loop = c .before .before .before .before .loop in
     let a = c .before .before .before .before .before .before .before .args in
-    let l = c .before .before .before .before .loop in
-    sym (l .inv .1 ∙ named-here (tablePredicate (a .problem .now) (a .table)) (l .i) (a .name .now) (a .table .inputs - l .i) (omega arith) (sym (c .before .has-name .ensures) ∙ c .if2 .taken))
+    let l = loop in
+    sym (l .inv .1 ∙ named-here (tablePredicate (a .problem .now) (a .table)) (l .i) (a .name .now) (a .table .inputs - l .i) (omega arith) (sym (c .before .is-named .ensures) ∙ c .if2 .taken))
 
 loop-again : tie.Need-loop-again Inv-loop μ-loop
 loop-again c =
+    let loop = c .before .before .before .before .loop in
     let a = c .before .before .before .before .before .before .before .args in
-    let l = c .before .before .before .before .loop in
+    let l = loop in
     let e : a .table .inputs - l .i - 1 ≡ a .table .inputs - (l .i + 1) = omega arith in
-    (omega arith, l .inv .1 ∙ named-next (tablePredicate (a .problem .now) (a .table)) (l .i) (a .name .now) (a .table .inputs - l .i) (omega arith) (sym (c .before .has-name .ensures) ∙ c .if2 .left) ∙ rw e)
+    (omega arith, l .inv .1 ∙ named-next (tablePredicate (a .problem .now) (a .table)) (l .i) (a .name .now) (a .table .inputs - l .i) (omega arith) (sym (c .before .is-named .ensures) ∙ c .if2 .left) ∙ rw e)
 
 returns-2 : tie.Need-returns-2 Inv-loop μ-loop
 returns-2 c =

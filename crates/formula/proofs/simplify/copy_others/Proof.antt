@@ -22,44 +22,64 @@ loop-holds : tie.Need-loop-holds Inv-loop μ-loop
 loop-holds c = (omega (arith, c .before .before .pre .0), ahead-start _ _ _)
 
 slice-reshare-prefix-peek : tie.Need-slice-reshare-prefix-peek Inv-loop μ-loop
-slice-reshare-prefix-peek c = omega (arith, c .before .before .before .before .pre .0, ahead-length (c .before .loop .inv .1))
+slice-reshare-prefix-peek c =
+    let start = c .before .before .before .before in
+    omega (arith, start .pre .0, ahead-length (c .before .loop .inv .1))
 
 slice-aggregate-peek : tie.Need-slice-aggregate-peek Inv-loop μ-loop
-slice-aggregate-peek c = sym (length-take-le (c .before .before .before .before .before .args .end) (c .before .before .loop .work) (omega (arith, c .before .before .before .before .before .pre .0, ahead-length (c .before .before .loop .inv .1))))
+slice-aggregate-peek c =
+    let loop = c .before .before .loop in
+    let start = c .before .before .before .before .before in
+    sym (length-take-le (start .args .end) (loop .work) (omega (arith, start .pre .0, ahead-length (loop .inv .1))))
 
 slice-reshare-prefix-past : tie.Need-slice-reshare-prefix-past Inv-loop μ-loop
-slice-reshare-prefix-past c = omega (arith, c .before .before .before .before .before .before .pre .0, ahead-length (c .before .before .before .loop .inv .1))
+slice-reshare-prefix-past c =
+    let loop = c .before .before .before .loop in
+    let start = c .before .before .before .before .before .before in
+    omega (arith, start .pre .0, ahead-length (loop .inv .1))
 
 slice-aggregate-past : tie.Need-slice-aggregate-past Inv-loop μ-loop
-slice-aggregate-past c = sym (length-take-le (c .before .before .before .before .before .before .before .args .end) (c .before .before .before .before .loop .work) (omega (arith, c .before .before .before .before .before .before .before .pre .0, ahead-length (c .before .before .before .before .loop .inv .1))))
+slice-aggregate-past c =
+    let loop = c .before .before .before .before .loop in
+    let start = c .before .before .before .before .before .before .before in
+    sym (length-take-le (start .args .end) (loop .work) (omega (arith, start .pre .0, ahead-length (loop .inv .1))))
 
 past-requires : tie.Need-past-requires Inv-loop μ-loop
 past-requires c κs =
-    let l = length-take-le (c .before .before .before .before .before .before .before .args .end) (c .before .before .before .before .loop .work) (omega (arith, c .before .before .before .before .before .before .before .pre .0, ahead-length (c .before .before .before .before .loop .inv .1))) in
-    omega (arith, c .before .before .before .before .before .before .before .pre .0, c .before .before .before .before .loop .inv)
+    let loop = c .before .before .before .before .loop in
+    let start = c .before .before .before .before .before .before .before in
+    let l = length-take-le (start .args .end) (loop .work) (omega (arith, start .pre .0, ahead-length (loop .inv .1))) in
+    omega (arith, start .pre .0, loop .inv)
 
 copy-unless-requires : tie.Need-copy-unless-requires Inv-loop μ-loop
 copy-unless-requires c κs =
-    let a = c .before .before .before .before .before .before .before .before .before .args in
-    let p = c .before .before .before .before .before .before .before .before .before .pre .0 in
-    let h = c .before .before .before .before .before .before .loop .inv .1 in
-    let l = length-take-le (a .end) (c .before .before .before .before .before .before .loop .work) (omega (arith, p, ahead-length h)) in
+    let loop = c .before .before .before .before .before .before .loop in
+    let start = c .before .before .before .before .before .before .before .before .before in
+    let a = start .args in
+    let p = start .pre .0 in
+    let h = loop .inv .1 in
+    let l = length-take-le (a .end) (loop .work) (omega (arith, p, ahead-length h)) in
     let range = length-slice (a .at) (a .end) (a .work .now) (omega (arith, p)) in
     omega (arith, p, c .before .past .ensures .0, c .before .past .ensures .1, ahead-length h, h .after, h .ends, length-wordsWithout (a .value) (a .count) (slice (a .at) (a .end) (a .work .now)))
 
 loop-again : tie.Need-loop-again Inv-loop μ-loop
 loop-again c =
-    let a = c .before .before .before .before .before .before .before .before .before .before .before .before .args in
-    let p = c .before .before .before .before .before .before .before .before .before .before .before .before .pre .0 in
-    let l = c .before .before .before .before .before .before .before .before .before .loop in
+    let past = c .before .before .before .before .past in
+    let peek = c .before .before .before .before .before .before .peek in
+    let loop = c .before .before .before .before .before .before .before .before .before .loop in
+    let truth-word = c .before .before .before .before .before .before .before .before .before .before .truth-word in
+    let start = c .before .before .before .before .before .before .before .before .before .before .before .before in
+    let a = start .args in
+    let p = start .pre .0 in
+    let l = loop in
     let h = l .inv .1 in
     let long = length-take-le (a .end) (l .work) (omega (arith, p, ahead-length h)) in
     let same = ahead-slice h (l .i) (a .end) (omega (arith, p)) in
-    let within : c .before .before .before .before .past .result ≤ a .end = omega (arith, c .before .before .before .before .past .ensures .1) in
-    let next = wordsWithout-next (a .value) (a .work .now) (l .i) (a .end) (l .pending) (c .before .before .before .before .past .result) (omega arith) (rw same at (c .before .before .before .before .past .ensures .0)) within in (
+    let within : past .result ≤ a .end = omega (arith, past .ensures .1) in
+    let next = wordsWithout-next (a .value) (a .work .now) (l .i) (a .end) (l .pending) (past .result) (omega arith) (rw same at (past .ensures .0)) within in (
       within,
       ahead-turn h
-          (rw (ahead-slice h (l .i) (c .before .before .before .before .past .result) (omega (arith, p, within)), c .before .before .before .before .before .before .peek .ensures, ahead-take h (a .end) (omega (arith, p)), c .before .before .before .before .before .before .before .before .before .before .truth-word .ensures) next)
+          (rw (ahead-slice h (l .i) (past .result) (omega (arith, p, within)), peek .ensures, ahead-take h (a .end) (omega (arith, p)), truth-word .ensures) next)
           (c .before .before .copy-unless .ensures),
     )
 

@@ -22,7 +22,9 @@ loop-holds : tie.Need-loop-holds Inv-loop μ-loop
 loop-holds c = (omega arith, omega arith, omega arith)
 
 past-requires : tie.Need-past-requires Inv-loop μ-loop
-past-requires c κs = omega (arith, c .before .before .before .loop .inv)
+past-requires c κs =
+    let loop = c .before .before .before .loop in
+    omega (arith, loop .inv)
 
 sub-pending : tie.Need-sub-pending Inv-loop μ-loop
 sub-pending c = omega arith
@@ -32,19 +34,23 @@ loop-less c = omega arith
 
 loop-again : tie.Need-loop-again Inv-loop μ-loop
 loop-again c =
+    let peek = c .before .before .peek in
+    let loop = c .before .before .before .before .loop in
+    let truth-word = c .before .before .before .before .before .truth-word in
     let a = c .before .before .before .before .before .before .before .args in
-    let l = c .before .before .before .before .loop in
+    let l = loop in
     ⊎-elim
-    (λ w. let z = truthCount-found (a .value) (a .work .now) (l .i) (l .pending) (omega arith) (sym (c .before .before .peek .ensures) ∙ w .0 .taken ∙ c .before .before .before .before .before .truth-word .ensures) in
+    (λ w. let z = truthCount-found (a .value) (a .work .now) (l .i) (l .pending) (omega arith) (sym (peek .ensures) ∙ w .0 .taken ∙ truth-word .ensures) in
     (c .past .ensures .1, omega (arith, w .1), rw (c .past .ensures .0) (omega (arith, l .inv .2, w .1))))
-    (λ w. let z = truthCount-other (a .value) (a .work .now) (l .i) (l .pending) (omega arith) (λ e. w .0 .left (c .before .before .peek .ensures ∙ e ∙ sym (c .before .before .before .before .before .truth-word .ensures))) in
+    (λ w. let z = truthCount-other (a .value) (a .work .now) (l .i) (l .pending) (omega arith) (λ e. w .0 .left (peek .ensures ∙ e ∙ sym (truth-word .ensures))) in
     (c .past .ensures .1, omega (arith, w .1), rw (c .past .ensures .0) (omega (arith, l .inv .2, w .1))))
     (c .before .if1 .came)
 
 returns : tie.Need-returns Inv-loop μ-loop
 returns c =
+    let start = c .before .before .before .before in
     let l = c .before .loop in
-    let z = truthCount-none (c .before .before .before .before .args .value) (drop (l .i) (c .before .before .before .before .args .work .now)) (l .pending) (omega arith) in
+    let z = truthCount-none (start .args .value) (drop (l .i) (start .args .work .now)) (l .pending) (omega arith) in
     (omega (arith, l .inv .2), omega arith)
 
 pub truth-count-spec : {M : Type 1} → statement M

@@ -24,12 +24,15 @@ slice-read-word : tie.Need-slice-read-word Inv-loop μ-loop
 slice-read-word c = omega (arith, ahead-length (c .before .before .loop .inv .2))
 
 put-requires : tie.Need-put-requires Inv-loop μ-loop
-put-requires c κs = let a = c .before .before .before .before .before .args in omega (arith, c .before .before .before .loop .inv .2 .ends, length-slice (a .at) (a .end) (a .work .now) (omega arith))
+put-requires c κs =
+    let loop = c .before .before .before .loop in
+    let a = c .before .before .before .before .before .args in omega (arith, loop .inv .2 .ends, length-slice (a .at) (a .end) (a .work .now) (omega arith))
 
 loop-again : tie.Need-loop-again Inv-loop μ-loop
 loop-again c =
+    let loop = c .before .before .before .before .before .before .loop in
     let a = c .before .before .before .before .before .before .before .before .args in
-    let l = c .before .before .before .before .before .before .loop in (
+    let l = loop in (
       omega arith,
       omega arith,
       ahead-turn (l .inv .2) (rw (ahead-read (l .inv .2) (l .i) (omega arith)) (slice-next (l .i) (a .end) (a .work .now) (omega arith) (omega arith))) (c .before .before .put .ensures),
@@ -39,7 +42,9 @@ same-length : tie.Need-same-length Inv-loop μ-loop
 same-length c = ahead-length (c .before .loop .inv .2)
 
 returns : tie.Need-returns Inv-loop μ-loop
-returns c = ahead-end (c .before .loop .inv .2) (slice-none (c .before .loop .i) (c .before .before .before .args .end) (c .before .before .before .args .work .now) (omega arith))
+returns c =
+    let start = c .before .before .before in
+    ahead-end (c .before .loop .inv .2) (slice-none (c .before .loop .i) (start .args .end) (start .args .work .now) (omega arith))
 
 pub copy-spec : {M : Type 1} → statement M
 copy-spec =

@@ -28,21 +28,25 @@ slice-read-word c = omega (arith, ahead-length (c .before .before .loop .inv .5)
 
 loop-again : tie.Need-loop-again Inv-loop μ-loop
 loop-again c =
+    let put = c .before .before .put in
+    let loop = c .before .before .before .before .before .before .loop in
     let a = c .before .before .before .before .before .before .before .before .args in
-    let l = c .before .before .before .before .before .before .loop in (
+    let l = loop in (
       omega arith,
       omega arith,
       l .inv .2,
-      omega (arith, c .before .before .put .ensures .ends),
-      behind-word (a .work .now) (l .work) (a .from) (l .inv .4) (omega arith) (c .before .before .put .ensures),
-      ahead-turn (l .inv .5) (rw (behind-read (a .work .now) (l .work) (a .from) (l .inv .4) (l .i) (omega arith)) (slice-next (l .i) (a .from + a .size) (a .work .now) (omega arith) (omega arith))) (c .before .before .put .ensures),
+      omega (arith, put .ensures .ends),
+      behind-word (a .work .now) (l .work) (a .from) (l .inv .4) (omega arith) (put .ensures),
+      ahead-turn (l .inv .5) (rw (behind-read (a .work .now) (l .work) (a .from) (l .inv .4) (l .i) (omega arith)) (slice-next (l .i) (a .from + a .size) (a .work .now) (omega arith) (omega arith))) (put .ensures),
     )
 
 same-length : tie.Need-same-length Inv-loop μ-loop
 same-length c = ahead-length (c .before .loop .inv .5)
 
 returns : tie.Need-returns Inv-loop μ-loop
-returns c = ahead-end (c .before .loop .inv .5) (slice-none (c .before .loop .i) (c .before .before .before .args .from + c .before .before .before .args .size) (c .before .before .before .args .work .now) (omega arith))
+returns c =
+    let start = c .before .before .before in
+    ahead-end (c .before .loop .inv .5) (slice-none (c .before .loop .i) (start .args .from + start .args .size) (start .args .work .now) (omega arith))
 
 pub copy-back-spec : {M : Type 1} → statement M
 copy-back-spec =

@@ -9,20 +9,32 @@ use Rattle.formula.proofs.store.with_word.Statement.{statement}
 use Rattle.formula.proofs.store.with_word.Tie as tie
 
 put-requires : tie.Need-put-requires
-put-requires c κs = omega (arith, place-near (c .before .before .before .before .before .before .pre) (c .before .before .before .copy .ensures))
+put-requires c κs =
+    let copy = c .before .before .before .copy in
+    let start = c .before .before .before .before .before .before in
+    omega (arith, place-near (start .pre) (copy .ensures))
 
 copy-requires-2 : tie.Need-copy-requires-2
 copy-requires-2 c κs =
-    let h = ahead-turn (theory-starts (c .before .before .before .before .before .before .before .before .before .before .pre) (c .before .before .before .before .before .before .before .before .before .before .args .word ∷ []) (c .before .before .before .before .before .before .before .copy .ensures)) refl (c .before .before .before .put .ensures) in
-    omega (arith, place-near (c .before .before .before .before .before .before .before .before .before .before .pre) (c .before .before .before .before .before .before .before .copy .ensures), c .before .before .before .put .ensures .ends, ahead-length h, c .before .before .before .before .before .before .before .before .before .before .pre)
+    let put = c .before .before .before .put in
+    let copy = c .before .before .before .before .before .before .before .copy in
+    let start = c .before .before .before .before .before .before .before .before .before .before in
+    let h = ahead-turn (theory-starts (start .pre) (start .args .word ∷ []) (copy .ensures)) refl (put .ensures) in
+    omega (arith, place-near (start .pre) (copy .ensures), put .ensures .ends, ahead-length h, start .pre)
 
 sub-result : tie.Need-sub-result
 sub-result c =
-    omega (arith, c .before .before .copy2 .ensures .ends, place-near (c .before .before .before .before .before .before .before .before .before .before .before .before .before .pre) (c .before .before .before .before .before .before .before .before .before .before .copy .ensures), c .before .before .before .before .before .before .put .ensures .ends)
+    let put = c .before .before .before .before .before .before .put in
+    let copy = c .before .before .before .before .before .before .before .before .before .before .copy in
+    let start = c .before .before .before .before .before .before .before .before .before .before .before .before .before in
+    omega (arith, c .before .before .copy2 .ensures .ends, place-near (start .pre) (copy .ensures), put .ensures .ends)
 
 returns : tie.Need-returns
 returns c =
-    theory-ends (c .before .before .before .before .before .before .before .before .before .before .before .before .before .pre) (ahead-turn (theory-starts (c .before .before .before .before .before .before .before .before .before .before .before .before .before .pre) (c .before .before .before .before .before .before .before .before .before .before .before .before .before .args .word ∷ []) (c .before .before .before .before .before .before .before .before .before .before .copy .ensures)) refl (c .before .before .before .before .before .before .put .ensures)) (c .before .before .copy2 .ensures)
+    let put = c .before .before .before .before .before .before .put in
+    let copy = c .before .before .before .before .before .before .before .before .before .before .copy in
+    let start = c .before .before .before .before .before .before .before .before .before .before .before .before .before in
+    theory-ends (start .pre) (ahead-turn (theory-starts (start .pre) (start .args .word ∷ []) (copy .ensures)) refl (put .ensures)) (c .before .before .copy2 .ensures)
 
 pub with-word-spec : {M : Type 1} → statement M
 with-word-spec =

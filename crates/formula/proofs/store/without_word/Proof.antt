@@ -9,16 +9,22 @@ use Rattle.formula.proofs.store.without_word.Tie as tie
 
 copy-requires-2 : tie.Need-copy-requires-2
 copy-requires-2 c κs =
-    let h = theory-starts (c .before .before .before .before .before .before .pre) [] (c .before .before .before .copy .ensures) in
-    omega (arith, place-near (c .before .before .before .before .before .before .pre) (c .before .before .before .copy .ensures), ahead-length h, c .before .before .before .before .before .before .pre)
+    let copy = c .before .before .before .copy in
+    let start = c .before .before .before .before .before .before in
+    let h = theory-starts (start .pre) [] (copy .ensures) in
+    omega (arith, place-near (start .pre) (copy .ensures), ahead-length h, start .pre)
 
 sub-result : tie.Need-sub-result
 sub-result c =
-    omega (arith, c .before .before .copy2 .ensures .ends, place-near (c .before .before .before .before .before .before .before .before .before .pre) (c .before .before .before .before .before .before .copy .ensures))
+    let copy = c .before .before .before .before .before .before .copy in
+    let start = c .before .before .before .before .before .before .before .before .before in
+    omega (arith, c .before .before .copy2 .ensures .ends, place-near (start .pre) (copy .ensures))
 
 returns : tie.Need-returns
 returns c =
-    theory-ends (c .before .before .before .before .before .before .before .before .before .pre) (theory-starts (c .before .before .before .before .before .before .before .before .before .pre) [] (c .before .before .before .before .before .before .copy .ensures)) (c .before .before .copy2 .ensures)
+    let copy = c .before .before .before .before .before .before .copy in
+    let start = c .before .before .before .before .before .before .before .before .before in
+    theory-ends (start .pre) (theory-starts (start .pre) [] (copy .ensures)) (c .before .before .copy2 .ensures)
 
 pub without-word-spec : {M : Type 1} → statement M
 without-word-spec =

@@ -9,7 +9,9 @@ returns : tie.Need-returns
 returns c = rw (sym (c .before .equal .ensures) ∙ c .if1 .taken)
 
 returns-2 : tie.Need-returns-2
-returns-2 c = rw (sym (c .before .before .before .equal .ensures) ∙ c .before .before .if1 .left, c .equal2 .ensures)
+returns-2 c =
+    let equal = c .before .before .before .equal in
+    rw (sym (equal .ensures) ∙ c .before .before .if1 .left, c .equal2 .ensures)
 
 pub is-truth-spec : {M : Type 1} → statement M
 is-truth-spec =

@@ -12,18 +12,24 @@ use Rattle.formula.proofs.term.read_arguments.Tie as tie
 
 returns : tie.Need-returns
 returns c =
-    let a = c .before .before .before .before .args in
-    arguments-none (a .text .now) (a .domain) (boundIn (a .text .now) (a .scope)) (a .at) (memory (a .names .now) (a .work .now)) (a .to) (c .before .before .before .before .pre .0) (λ e. c .if1 .taken (c .before .peek .ensures ∙ e))
+    let start = c .before .before .before .before in
+    let a = start .args in
+    arguments-none (a .text .now) (a .domain) (boundIn (a .text .now) (a .scope)) (a .at) (memory (a .names .now) (a .work .now)) (a .to) (start .pre .0) (λ e. c .if1 .taken (c .before .peek .ensures ∙ e))
 
 closed-terms-requires : tie.Need-closed-terms-requires
 closed-terms-requires c κs =
-    let h = byte-found (c .before .before .before .before .before .before .args .text .now) (c .before .before .before .before .before .before .args .at) 40 (omega arith) (sym (c .before .before .before .peek .ensures) ∙ c .before .before .if1 .left) .within in
+    let peek = c .before .before .before .peek in
+    let start = c .before .before .before .before .before .before in
+    let h = byte-found (start .args .text .now) (start .args .at) 40 (omega arith) (sym (peek .ensures) ∙ c .before .before .if1 .left) .within in
     search needs
 
 returns-2 : tie.Need-returns-2
 returns-2 c =
+    let closed-terms = c .before .before .closed-terms in
+    let if1 = c .before .before .before .before .before .if1 in
+    let peek = c .before .before .before .before .before .before .peek in
     let a = c .before .before .before .before .before .before .before .before .before .args in
-    arguments-some (a .text .now) (a .domain) (boundIn (a .text .now) (a .scope)) (a .at) (memory (a .names .now) (a .work .now)) (a .to) (sym (c .before .before .before .before .before .before .peek .ensures) ∙ c .before .before .before .before .before .if1 .left) (c .before .before .closed-terms .result) _ (c .before .before .closed-terms .ensures)
+    arguments-some (a .text .now) (a .domain) (boundIn (a .text .now) (a .scope)) (a .at) (memory (a .names .now) (a .work .now)) (a .to) (sym (peek .ensures) ∙ if1 .left) (closed-terms .result) _ (closed-terms .ensures)
 
 pub read-arguments-spec : {M : Type 1} → statement M
 read-arguments-spec =

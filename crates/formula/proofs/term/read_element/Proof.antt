@@ -10,25 +10,34 @@ use Rattle.formula.proofs.term.read_element.Tie as tie
 
 mul-set-word : tie.Need-mul-set-word
 mul-set-word c =
-    let f = subst (ToldNumber (c .before .before .before .before .before .before .before .args .text .now) (c .before .before .before .before .before .before .before .args .at)) (c .before .before .next .given .1) (c .before .before .before .before .number-at .ensures) in
+    let number-at = c .before .before .before .before .number-at in
+    let start = c .before .before .before .before .before .before .before in
+    let f = subst (ToldNumber (start .args .text .now) (start .args .at)) (c .before .before .next .given .1) (number-at .ensures) in
     omega (arith, f .small)
 
 add-set-word : tie.Need-add-set-word
 add-set-word c =
-    let f = subst (ToldNumber (c .before .before .before .before .before .before .before .args .text .now) (c .before .before .before .before .before .before .before .args .at)) (c .before .before .next .given .1) (c .before .before .before .before .number-at .ensures) in
+    let number-at = c .before .before .before .before .number-at in
+    let start = c .before .before .before .before .before .before .before in
+    let f = subst (ToldNumber (start .args .text .now) (start .args .at)) (c .before .before .next .given .1) (number-at .ensures) in
     omega (arith, f .small)
 
 returns : tie.Need-returns
 returns c =
+    let set-word = c .before .before .before .set-word in
+    let next = c .before .before .before .before .before .before .next in
+    let number-at = c .before .before .before .before .before .before .before .before .number-at in
     let a = c .before .before .before .before .before .before .before .before .before .before .before .args in
     λ bound names.
-    rw (c .before .before .before .set-word .ensures, c .is-element .ensures)
-    (element-found (a .text .now) (a .domain) bound (a .at) names (a .work .now) (a .to) (c .before .before .before .before .before .before .next .given .0 .1 .0) (c .before .before .before .before .before .before .next .given .0 .0) (subst (ToldNumber (a .text .now) (a .at)) (c .before .before .before .before .before .before .next .given .1) (c .before .before .before .before .before .before .before .before .number-at .ensures)))
+    rw (set-word .ensures, c .is-element .ensures)
+    (element-found (a .text .now) (a .domain) bound (a .at) names (a .work .now) (a .to) (next .given .0 .1 .0) (next .given .0 .0) (subst (ToldNumber (a .text .now) (a .at)) (next .given .1) (number-at .ensures)))
 
 returns-2 : tie.Need-returns-2
 returns-2 c =
-    let a = c .before .before .before .before .before .before .args in
-    λ bound names. element-large (a .text .now) (a .domain) bound (a .at) names (a .work .now) (a .to) (c .before .next2 .given .0 .0) (c .before .before .before .before .before .before .pre .1) (subst (ToldNumber (a .text .now) (a .at)) (c .before .next2 .given .1) (c .before .before .before .number-at .ensures))
+    let number-at = c .before .before .before .number-at in
+    let start = c .before .before .before .before .before .before in
+    let a = start .args in
+    λ bound names. element-large (a .text .now) (a .domain) bound (a .at) names (a .work .now) (a .to) (c .before .next2 .given .0 .0) (start .pre .1) (subst (ToldNumber (a .text .now) (a .at)) (c .before .next2 .given .1) (number-at .ensures))
 
 returns-3 : tie.Need-returns-3
 returns-3 c =

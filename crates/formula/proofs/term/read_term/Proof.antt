@@ -13,19 +13,27 @@ use Rattle.formula.proofs.term.read_term.Tie as tie
 
 returns : tie.Need-returns
 returns c =
+    let read-element = c .before .before .read-element in
+    let if1 = c .before .before .before .before .if1 in
+    let is-digit = c .before .before .before .before .before .is-digit in
+    let peek = c .before .before .before .before .before .before .peek in
     let a = c .before .before .before .before .before .before .before .before .before .args in
     let bound = boundIn (a .text .now) (a .scope) in
-    told-term (a .text .now) (a .at) (a .domain) bound readElement readTerm (memory (a .names .now) (a .work .now)) (a .to) (c .before .before .read-element .result) _
-    (term-digit (a .text .now) (a .at) (ap isDigit (sym (c .before .before .before .before .before .before .peek .ensures)) ∙ sym (c .before .before .before .before .before .is-digit .ensures) ∙ c .before .before .before .before .if1 .taken))
-    (c .before .before .read-element .ensures bound (a .names .now))
+    told-term (a .text .now) (a .at) (a .domain) bound readElement readTerm (memory (a .names .now) (a .work .now)) (a .to) (read-element .result) _
+    (term-digit (a .text .now) (a .at) (ap isDigit (sym (peek .ensures)) ∙ sym (is-digit .ensures) ∙ if1 .taken))
+    (read-element .ensures bound (a .names .now))
 
 returns-2 : tie.Need-returns-2
 returns-2 c =
+    let read-variable = c .before .before .read-variable in
+    let if1 = c .before .before .before .before .before .if1 in
+    let is-digit = c .before .before .before .before .before .before .is-digit in
+    let peek = c .before .before .before .before .before .before .before .peek in
     let a = c .before .before .before .before .before .before .before .before .before .before .args in
     let bound = boundIn (a .text .now) (a .scope) in
-    told-term (a .text .now) (a .at) (a .domain) bound readVariableTerm readTerm (memory (a .names .now) (a .work .now)) (a .to) (c .before .before .read-variable .result) _
-    (term-other (a .text .now) (a .at) (ap isDigit (sym (c .before .before .before .before .before .before .before .peek .ensures)) ∙ sym (c .before .before .before .before .before .before .is-digit .ensures) ∙ c .before .before .before .before .before .if1 .left))
-    (c .before .before .read-variable .ensures (a .domain))
+    told-term (a .text .now) (a .at) (a .domain) bound readVariableTerm readTerm (memory (a .names .now) (a .work .now)) (a .to) (read-variable .result) _
+    (term-other (a .text .now) (a .at) (ap isDigit (sym (peek .ensures)) ∙ sym (is-digit .ensures) ∙ if1 .left))
+    (read-variable .ensures (a .domain))
 
 pub read-term-spec : {M : Type 1} → statement M
 read-term-spec =

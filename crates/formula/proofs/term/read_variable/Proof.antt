@@ -12,12 +12,16 @@ use Rattle.formula.proofs.term.read_variable.Tie as tie
 
 sub-size : tie.Need-sub-size
 sub-size c =
-    let f = subst (ToldWord readVariable (c .before .before .before .before .before .before .args .text .now) (c .before .before .before .before .before .before .args .at)) (c .before .next .given .1) (c .before .before .before .variable-end .ensures) in
+    let variable-end = c .before .before .before .variable-end in
+    let start = c .before .before .before .before .before .before in
+    let f = subst (ToldWord readVariable (start .args .text .now) (start .args .at)) (c .before .next .given .1) (variable-end .ensures) in
     omega (arith, f .after)
 
 list-name-requires : tie.Need-list-name-requires
 list-name-requires c κs =
-    let f = subst (ToldWord readVariable (c .before .before .before .before .before .before .before .args .text .now) (c .before .before .before .before .before .before .before .args .at)) (c .before .before .next .given .1) (c .before .before .before .before .variable-end .ensures) in
+    let variable-end = c .before .before .before .before .variable-end in
+    let start = c .before .before .before .before .before .before .before in
+    let f = subst (ToldWord readVariable (start .args .text .now) (start .args .at)) (c .before .before .next .given .1) (variable-end .ensures) in
     (omega arith, omega (arith, f .within))
 
 mul-set-word : tie.Need-mul-set-word
@@ -28,10 +32,14 @@ add-set-word c = omega (arith, c .before .list-name .ensures .small)
 
 returns : tie.Need-returns
 returns c =
+    let set-word = c .before .before .before .set-word in
+    let list-name = c .before .before .before .before .before .list-name in
+    let next = c .before .before .before .before .before .before .before .before .next in
+    let variable-end = c .before .before .before .before .before .before .before .before .before .before .variable-end in
     let a = c .before .before .before .before .before .before .before .before .before .before .before .before .before .args in
     λ n.
-    rw (c .before .before .before .set-word .ensures)
-    (variable-entered (a .text .now) n (boundIn (a .text .now) (a .scope)) (a .at) (a .names .now) (a .work .now) (a .to) (c .before .before .before .before .before .before .before .before .next .given .0 .0) (c .before .before .before .before .before .list-name .result) _ (c .is-bound .result) (subst (ToldWord readVariable (a .text .now) (a .at)) (c .before .before .before .before .before .before .before .before .next .given .1) (c .before .before .before .before .before .before .before .before .before .before .variable-end .ensures)) (c .before .before .before .before .before .list-name .ensures) (c .is-bound .ensures))
+    rw (set-word .ensures)
+    (variable-entered (a .text .now) n (boundIn (a .text .now) (a .scope)) (a .at) (a .names .now) (a .work .now) (a .to) (next .given .0 .0) (list-name .result) _ (c .is-bound .result) (subst (ToldWord readVariable (a .text .now) (a .at)) (next .given .1) (variable-end .ensures)) (list-name .ensures) (c .is-bound .ensures))
 
 returns-2 : tie.Need-returns-2
 returns-2 c =

@@ -13,39 +13,64 @@ use Rattle.formula.proofs.theory_line.read_line.Tie as tie
 
 returns : tie.Need-returns
 returns c =
+    let next = c .before .before .before .next in
+    let read-formula = c .before .before .before .before .before .before .before .read-formula in
+    let no-scope = c .before .before .before .before .before .before .before .before .before .before .no-scope in
     let a = c .before .before .before .before .before .before .before .before .before .before .before .before .before .before .args in
-    λ rows. line-open (a .problem .now) (a .table) rows (a .text .now) (a .at) (c .before .before .before .before .before .before .before .before .before .before .no-scope .result) (c .before .before .before .before .before .before .before .before .before .before .no-scope .ensures) (memory (a .names .now) (a .work .now)) (a .to) (c .before .before .before .next .given .0 .0) (c .before .before .before .next .given .0 .1 .0) (c .before .before .before .next .given .0 .1 .1 .0) _ (formula-done (readFormula 32) (settingOf (a .text .now) (c .before .before .before .before .before .before .before .before .before .before .no-scope .result) (a .problem .now) (a .table)) (a .at) (memory (a .names .now) (a .work .now)) (a .to) _ (c .before .before .before .before .before .before .before .read-formula .result) (c .before .before .before .before .before .before .before .read-formula .ensures) (c .before .before .before .next .given .0 .0) (c .before .before .before .next .given .0 .1 .0) (c .before .before .before .next .given .0 .1 .1 .0) (c .before .before .before .next .given .1)) (λ e. c .if1 .taken (c .before .peek .ensures ∙ e))
+    λ rows. line-open (a .problem .now) (a .table) rows (a .text .now) (a .at) (no-scope .result) (no-scope .ensures) (memory (a .names .now) (a .work .now)) (a .to) (next .given .0 .0) (next .given .0 .1 .0) (next .given .0 .1 .1 .0) _ (formula-done (readFormula 32) (settingOf (a .text .now) (no-scope .result) (a .problem .now) (a .table)) (a .at) (memory (a .names .now) (a .work .now)) (a .to) _ (read-formula .result) (read-formula .ensures) (next .given .0 .0) (next .given .0 .1 .0) (next .given .0 .1 .1 .0) (next .given .1)) (λ e. c .if1 .taken (c .before .peek .ensures ∙ e))
 
 returns-2 : tie.Need-returns-2
 returns-2 c =
+    let peek = c .before .before .before .peek in
+    let next = c .before .before .before .before .before .next in
+    let read-formula = c .before .before .before .before .before .before .before .before .before .read-formula in
+    let no-scope = c .before .before .before .before .before .before .before .before .before .before .before .before .no-scope in
     let a = c .before .before .before .before .before .before .before .before .before .before .before .before .before .before .before .before .args in
-    λ rows. line-unnamed (a .problem .now) (a .table) rows (a .text .now) (a .at) (c .before .before .before .before .before .before .before .before .before .before .before .before .no-scope .result) (c .before .before .before .before .before .before .before .before .before .before .before .before .no-scope .ensures) (memory (a .names .now) (a .work .now)) (a .to) (c .before .before .before .before .before .next .given .0 .0) (c .before .before .before .before .before .next .given .0 .1 .0) (c .before .before .before .before .before .next .given .0 .1 .1 .0) _ (formula-done (readFormula 32) (settingOf (a .text .now) (c .before .before .before .before .before .before .before .before .before .before .before .before .no-scope .result) (a .problem .now) (a .table)) (a .at) (memory (a .names .now) (a .work .now)) (a .to) _ (c .before .before .before .before .before .before .before .before .before .read-formula .result) (c .before .before .before .before .before .before .before .before .before .read-formula .ensures) (c .before .before .before .before .before .next .given .0 .0) (c .before .before .before .before .before .next .given .0 .1 .0) (c .before .before .before .before .before .next .given .0 .1 .1 .0) (c .before .before .before .before .before .next .given .1)) (sym (c .before .before .before .peek .ensures) ∙ c .before .before .if1 .left) (not-true _ (c .if2 .taken))
+    λ rows. line-unnamed (a .problem .now) (a .table) rows (a .text .now) (a .at) (no-scope .result) (no-scope .ensures) (memory (a .names .now) (a .work .now)) (a .to) (next .given .0 .0) (next .given .0 .1 .0) (next .given .0 .1 .1 .0) _ (formula-done (readFormula 32) (settingOf (a .text .now) (no-scope .result) (a .problem .now) (a .table)) (a .at) (memory (a .names .now) (a .work .now)) (a .to) _ (read-formula .result) (read-formula .ensures) (next .given .0 .0) (next .given .0 .1 .0) (next .given .0 .1 .1 .0) (next .given .1)) (sym (peek .ensures) ∙ c .before .before .if1 .left) (not-true _ (c .if2 .taken))
 
 returns-3 : tie.Need-returns-3
 returns-3 c =
+    let if1 = c .before .before .before .before .if1 in
+    let peek = c .before .before .before .before .before .peek in
+    let next = c .before .before .before .before .before .before .before .next in
+    let read-formula = c .before .before .before .before .before .before .before .before .before .before .before .read-formula in
+    let no-scope = c .before .before .before .before .before .before .before .before .before .before .before .before .before .before .no-scope in
     let a = c .before .before .before .before .before .before .before .before .before .before .before .before .before .before .before .before .before .before .args in
-    λ rows. line-unnormal (a .problem .now) (a .table) rows (a .text .now) (a .at) (c .before .before .before .before .before .before .before .before .before .before .before .before .before .before .no-scope .result) (c .before .before .before .before .before .before .before .before .before .before .before .before .before .before .no-scope .ensures) (memory (a .names .now) (a .work .now)) (a .to) (c .before .before .before .before .before .before .before .next .given .0 .0) (c .before .before .before .before .before .before .before .next .given .0 .1 .0) (c .before .before .before .before .before .before .before .next .given .0 .1 .1 .0) _ (formula-done (readFormula 32) (settingOf (a .text .now) (c .before .before .before .before .before .before .before .before .before .before .before .before .before .before .no-scope .result) (a .problem .now) (a .table)) (a .at) (memory (a .names .now) (a .work .now)) (a .to) _ (c .before .before .before .before .before .before .before .before .before .before .before .read-formula .result) (c .before .before .before .before .before .before .before .before .before .before .before .read-formula .ensures) (c .before .before .before .before .before .before .before .next .given .0 .0) (c .before .before .before .before .before .before .before .next .given .0 .1 .0) (c .before .before .before .before .before .before .before .next .given .0 .1 .1 .0) (c .before .before .before .before .before .before .before .next .given .1)) (sym (c .before .before .before .before .before .peek .ensures) ∙ c .before .before .before .before .if1 .left) (not-false _ (c .before .before .if2 .left)) (not-true _ (c .if3 .taken))
+    λ rows. line-unnormal (a .problem .now) (a .table) rows (a .text .now) (a .at) (no-scope .result) (no-scope .ensures) (memory (a .names .now) (a .work .now)) (a .to) (next .given .0 .0) (next .given .0 .1 .0) (next .given .0 .1 .1 .0) _ (formula-done (readFormula 32) (settingOf (a .text .now) (no-scope .result) (a .problem .now) (a .table)) (a .at) (memory (a .names .now) (a .work .now)) (a .to) _ (read-formula .result) (read-formula .ensures) (next .given .0 .0) (next .given .0 .1 .0) (next .given .0 .1 .1 .0) (next .given .1)) (sym (peek .ensures) ∙ if1 .left) (not-false _ (c .before .before .if2 .left)) (not-true _ (c .if3 .taken))
 
 add-t19 : tie.Need-add-t19
 add-t19 c =
-    let a = c .before .before .before .before .before .before .before .before .before .before .before .before .before .before .before .before .before .before .args in
-    let f = formula-done (readFormula 32) (settingOf (a .text .now) (c .before .before .before .before .before .before .before .before .before .before .before .before .before .before .no-scope .result) (a .problem .now) (a .table)) (a .at) (memory (a .names .now) (a .work .now)) (a .to) _ (c .before .before .before .before .before .before .before .before .before .before .before .read-formula .result) (c .before .before .before .before .before .before .before .before .before .before .before .read-formula .ensures) (c .before .before .before .before .before .before .before .next .given .0 .0) (c .before .before .before .before .before .before .before .next .given .0 .1 .0) (c .before .before .before .before .before .before .before .next .given .0 .1 .1 .0) (c .before .before .before .before .before .before .before .next .given .1) in
-    omega (arith, f .within, c .before .before .before .before .before .before .before .before .before .before .before .before .before .before .before .before .before .before .pre .1)
+    let next = c .before .before .before .before .before .before .before .next in
+    let read-formula = c .before .before .before .before .before .before .before .before .before .before .before .read-formula in
+    let no-scope = c .before .before .before .before .before .before .before .before .before .before .before .before .before .before .no-scope in
+    let start = c .before .before .before .before .before .before .before .before .before .before .before .before .before .before .before .before .before .before in
+    let a = start .args in
+    let f = formula-done (readFormula 32) (settingOf (a .text .now) (no-scope .result) (a .problem .now) (a .table)) (a .at) (memory (a .names .now) (a .work .now)) (a .to) _ (read-formula .result) (read-formula .ensures) (next .given .0 .0) (next .given .0 .1 .0) (next .given .0 .1 .1 .0) (next .given .1) in
+    omega (arith, f .within, start .pre .1)
 
 returns-4 : tie.Need-returns-4
 returns-4 c =
+    let if1 = c .before .before .before .before .if1 in
+    let peek = c .before .before .before .before .before .peek in
+    let next = c .before .before .before .before .before .before .before .next in
+    let read-formula = c .before .before .before .before .before .before .before .before .before .before .before .read-formula in
+    let no-scope = c .before .before .before .before .before .before .before .before .before .before .before .before .before .before .no-scope in
     let a = c .before .before .before .before .before .before .before .before .before .before .before .before .before .before .before .before .before .before .args in
-    λ rows. line-found (a .problem .now) (a .table) rows (a .text .now) (a .at) (c .before .before .before .before .before .before .before .before .before .before .before .before .before .before .no-scope .result) (c .before .before .before .before .before .before .before .before .before .before .before .before .before .before .no-scope .ensures) (memory (a .names .now) (a .work .now)) (a .to) (c .before .before .before .before .before .before .before .next .given .0 .0) (c .before .before .before .before .before .before .before .next .given .0 .1 .0) (c .before .before .before .before .before .before .before .next .given .0 .1 .1 .0) _ (formula-done (readFormula 32) (settingOf (a .text .now) (c .before .before .before .before .before .before .before .before .before .before .before .before .before .before .no-scope .result) (a .problem .now) (a .table)) (a .at) (memory (a .names .now) (a .work .now)) (a .to) _ (c .before .before .before .before .before .before .before .before .before .before .before .read-formula .result) (c .before .before .before .before .before .before .before .before .before .before .before .read-formula .ensures) (c .before .before .before .before .before .before .before .next .given .0 .0) (c .before .before .before .before .before .before .before .next .given .0 .1 .0) (c .before .before .before .before .before .before .before .next .given .0 .1 .1 .0) (c .before .before .before .before .before .before .before .next .given .1)) (sym (c .before .before .before .before .before .peek .ensures) ∙ c .before .before .before .before .if1 .left) (not-false _ (c .before .before .if2 .left)) (not-false _ (c .if3 .left))
+    λ rows. line-found (a .problem .now) (a .table) rows (a .text .now) (a .at) (no-scope .result) (no-scope .ensures) (memory (a .names .now) (a .work .now)) (a .to) (next .given .0 .0) (next .given .0 .1 .0) (next .given .0 .1 .1 .0) _ (formula-done (readFormula 32) (settingOf (a .text .now) (no-scope .result) (a .problem .now) (a .table)) (a .at) (memory (a .names .now) (a .work .now)) (a .to) _ (read-formula .result) (read-formula .ensures) (next .given .0 .0) (next .given .0 .1 .0) (next .given .0 .1 .1 .0) (next .given .1)) (sym (peek .ensures) ∙ if1 .left) (not-false _ (c .before .before .if2 .left)) (not-false _ (c .if3 .left))
 
 returns-5 : tie.Need-returns-5
 returns-5 c =
+    let read-formula = c .before .before .before .before .read-formula in
+    let no-scope = c .before .before .before .before .before .before .before .no-scope in
     let a = c .before .before .before .before .before .before .before .before .before .before .before .args in
-    λ rows. line-refused (a .problem .now) (a .table) rows (a .text .now) (a .at) 5 (formula-malformed (readFormula 32) (settingOf (a .text .now) (c .before .before .before .before .before .before .before .no-scope .result) (a .problem .now) (a .table)) (a .at) (memory (a .names .now) (a .work .now)) (a .to) _ (c .before .before .before .before .read-formula .result) (c .before .before .before .before .read-formula .ensures) (c .enum-told .given .1))
+    λ rows. line-refused (a .problem .now) (a .table) rows (a .text .now) (a .at) 5 (formula-malformed (readFormula 32) (settingOf (a .text .now) (no-scope .result) (a .problem .now) (a .table)) (a .at) (memory (a .names .now) (a .work .now)) (a .to) _ (read-formula .result) (read-formula .ensures) (c .enum-told .given .1))
 
 returns-6 : tie.Need-returns-6
 returns-6 c =
+    let read-formula = c .before .before .before .before .read-formula in
+    let no-scope = c .before .before .before .before .before .before .before .no-scope in
     let a = c .before .before .before .before .before .before .before .before .before .before .before .args in
-    λ rows. line-refused (a .problem .now) (a .table) rows (a .text .now) (a .at) 6 (formula-deep (readFormula 32) (settingOf (a .text .now) (c .before .before .before .before .before .before .before .no-scope .result) (a .problem .now) (a .table)) (a .at) (memory (a .names .now) (a .work .now)) (a .to) _ (c .before .before .before .before .read-formula .result) (c .before .before .before .before .read-formula .ensures) (c .enum-told2 .given .1))
+    λ rows. line-refused (a .problem .now) (a .table) rows (a .text .now) (a .at) 6 (formula-deep (readFormula 32) (settingOf (a .text .now) (no-scope .result) (a .problem .now) (a .table)) (a .at) (memory (a .names .now) (a .work .now)) (a .to) _ (read-formula .result) (read-formula .ensures) (c .enum-told2 .given .1))
 
 pub read-line-spec : {M : Type 1} → statement M
 read-line-spec =

@@ -29,8 +29,9 @@ returns c =
 
 loop-again : tie.Need-loop-again Inv-loop μ-loop
 loop-again c =
+    let loop = c .before .before .before .before .loop in
     let a = c .before .before .before .before .before .before .args in
-    let l = c .before .before .before .before .loop in
+    let l = loop in
     let turn = skip-turn (a .work .now) (l .i) (l .pending) (c .before .before .if1 .left) (omega arith) in
     (omega arith, omega arith, l .inv .2 ∙ rw (c .parts-of .ensures .0) turn, omega (arith, c .parts-of .ensures .1))
 

@@ -24,24 +24,30 @@ loop-holds c = (omega arith, omega arith, omega arith, refl)
 
 returns : tie.Need-returns Inv-loop μ-loop
 returns c =
+    let down = c .before .before .down in
+    let digits-at = c .before .before .before .digits-at in
+    let loop = c .before .before .before .before .before .loop in
     let a = c .before .before .before .before .before .before .before .before .args in
-    let l = c .before .before .before .before .before .loop in
-    let d = c .before .before .before .digits-at .ensures in (
-      sym (l .inv .3 ∙ walk-stop (a .work .now) (a .text .now) (l .number) (l .pending) (l .place) _ (c .before .before .down .result) (omega arith) (d .next)
-          (c .before .before .down .ensures .0 ∙ ap (placeBelow (a .work .now) (l .place)) (d .value)) (c .enum-told .given .1)),
+    let l = loop in
+    let d = digits-at .ensures in (
+      sym (l .inv .3 ∙ walk-stop (a .work .now) (a .text .now) (l .number) (l .pending) (l .place) _ (down .result) (omega arith) (d .next)
+          (down .ensures .0 ∙ ap (placeBelow (a .work .now) (l .place)) (d .value)) (c .enum-told .given .1)),
       tt,
     )
 
 loop-again : tie.Need-loop-again Inv-loop μ-loop
 loop-again c =
+    let down = c .before .before .before .down in
+    let digits-at = c .before .before .before .before .digits-at in
+    let loop = c .before .before .before .before .before .before .loop in
     let a = c .before .before .before .before .before .before .before .before .before .args in
-    let l = c .before .before .before .before .before .before .loop in
-    let d = c .before .before .before .before .digits-at .ensures in (
-      subst (Within (length (a .work .now))) (c .before .below .given .1) (c .before .before .before .down .ensures .1),
+    let l = loop in
+    let d = digits-at .ensures in (
+      subst (Within (length (a .work .now))) (c .before .below .given .1) (down .ensures .1),
       omega arith,
       omega (arith, d .within),
-      l .inv .3 ∙ walk-on (a .work .now) (a .text .now) (l .number) (l .pending) (l .place) _ _ (c .before .before .before .down .result) (omega arith) (d .next)
-          (c .before .before .before .down .ensures .0 ∙ ap (placeBelow (a .work .now) (l .place)) (d .value)) (c .before .below .given .1),
+      l .inv .3 ∙ walk-on (a .work .now) (a .text .now) (l .number) (l .pending) (l .place) _ _ (down .result) (omega arith) (d .next)
+          (down .ensures .0 ∙ ap (placeBelow (a .work .now) (l .place)) (d .value)) (c .before .below .given .1),
     )
 
 returns-2 : tie.Need-returns-2 Inv-loop μ-loop

@@ -21,12 +21,14 @@ loop-holds c = (omega arith, refl, refl)
 
 returns : tie.Need-returns Inv-loop μ-loop
 returns c =
-    let l = c .before .before .before .loop in
+    let loop = c .before .before .before .loop in
+    let l = loop in
     sym (l .inv .2 ∙ elements-stop (c .before .before .before .before .before .args .work .now) (l .i) (l .pending) (omega arith) (λ e. c .if1 .taken (rw (c .before .peek .ensures) e)))
 
 loop-again : tie.Need-loop-again Inv-loop μ-loop
 loop-again c =
-    let l = c .before .before .before .loop in
+    let loop = c .before .before .before .loop in
+    let l = loop in
     (omega arith, omega arith, l .inv .2 ∙ elements-more (c .before .before .before .before .before .args .work .now) (l .i) (l .pending) (omega arith) (rw (c .before .peek .ensures) at (c .if1 .left)))
 
 returns-2 : tie.Need-returns-2 Inv-loop μ-loop
