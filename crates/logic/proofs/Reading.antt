@@ -39,7 +39,7 @@ reads-name : Reads [] (λ p. isName p ≡ true) (λ p. p) (readName 5)
 unfolding readName
 reads-name = reads-weaken (reads-token isLetterOrDigit 5 isName) (λ p h. (h .1, refl))
 
-reads-term : Reads [] (λ t. termSpelled t ≡ true) termText readTerm
+pub reads-term : Reads [] (λ t. termSpelled t ≡ true) termText readTerm
 unfolding readTerm
 reads-term =
     reads-cond (λ s. isDigit (next s))

@@ -2,11 +2,10 @@
 -- Assumes nothing.
 use Prim.Native.Nat.{ℕ, _+_, _-_, _≤_}
 use native.Mathlib.Omega.{arith}
-use mathlib.Core.Path.{_≡_, refl, sym, ap, _∙_}
+use mathlib.Core.Path.{_≡_, refl, sym, _∙_}
 use mathlib.Core.List.{[], _∷_}
 use mathlib.Core.Bool.{Bool, true, false, and-true}
 use lib.ListN.{length, take, drop}
-use lib.Seq.{take-append-seam}
 use Rattle.text.specs.Bytes.{Bytes, bytes, next, begins, span, isCapital, isSmallOrDigit, isLetterOrDigit}
 use Rattle.text.specs.Outcome.{mapped}
 use Rattle.text.specs.Reading.{word, readNumber}
@@ -18,7 +17,7 @@ use Rattle.text.specs.declared.number.Number.{Number}
 use Rattle.text.specs.declared.number.Number.the-variants.{Value, Beyond, Malformed}
 use Rattle.text.specs.declared.declaration.Declaration.the-variants as declaration
 use Rattle.text.proofs.Laws.{or-left}
-use Rattle.text.proofs.Reading.{span-split}
+use Rattle.text.proofs.Reading.{span-split, span-take}
 use Rattle.text.proofs.Found.{found-give, found-taken, taken-found, found-then, refused-first, refused-then, found-word, refused-word, found-token, refused-token}
 use Rattle.text.proofs.Found.{made-mapped, found-made, refused-made}
 use Rattle.text.proofs.FoundBytes.{byte-found, byte-missing}
@@ -82,9 +81,6 @@ isName-span (b ∷ s) = pick (isLetterOrDigit b) refl
     pick : (c : Bool) → isLetterOrDigit b ≡ c → let w : Bytes = elim c [ true ↦ b ∷ span isLetterOrDigit s | false ↦ [] ] in isName w ≡ isCapital b
     pick true e = rw (e, span-split isLetterOrDigit s .0) (and-true (isCapital b))
     pick false e = sym (or-left (isCapital b) (isSmallOrDigit b) e)
-
-span-take : (class : ℕ → Bool) (s : Bytes) → take (length (span class s)) s ≡ span class s
-span-take class s = ap (take (length (span class s))) (span-split class s .1) ∙ take-append-seam (span class s) (drop (length (span class s)) s)
 
 module _ (text : Bytes) (at : ℕ) where
   pub predicate-unnamed : isCapital (next (drop at text)) ≡ false → ToldDeclaration text at declaration.Malformed

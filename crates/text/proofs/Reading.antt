@@ -7,8 +7,8 @@ use mathlib.Core.Path.{_≡_, refl, sym, ap, ap₂, _∙_, subst}
 use mathlib.Core.List.{List, [], _∷_, _++_, append-nil, append-assoc, map}
 use mathlib.Core.Bool.{Bool, true, false, not, cond, _&&_, false≢true}
 use lib.Dec.{eqb}
-use lib.ListN.{length, drop, length-append}
-use lib.Seq.{drop-append-seam}
+use lib.ListN.{length, take, drop, length-append}
+use lib.Seq.{take-append-seam, drop-append-seam}
 use borrow.Author.Tests.{eqb-true, eq-eqb, ne-eqb, not-true}
 use Rattle.text.specs.Bytes.{Bytes, next, every, isDigit, begins, span, joined, followed}
 use Rattle.text.specs.Numbers.{isNumber, decimal}
@@ -94,6 +94,9 @@ module _ (class : ℕ → Bool) where
           → let w : Bytes = elim c [ true ↦ b ∷ span class s | false ↦ [] ] in (every class w ≡ true) × (b ∷ s ≡ w ++ drop (length w) (b ∷ s))
       pick true e ih = (ap₂ _&&_ e (ih .0), ap (λ (t : Bytes). b ∷ t) (ih .1))
       pick false e ih = (refl, refl)
+
+  pub span-take : (s : Bytes) → take (length (span class s)) s ≡ span class s
+  span-take s = ap (take (length (span class s))) (span-split s .1) ∙ take-append-seam (span class s) (drop (length (span class s)) s)
 
   reads-run : Reads [] (λ w. every class w ≡ true) (λ w. w) (run class)
   reads-run = record { sound = span-split }

@@ -37,7 +37,7 @@ reads-shrinks {text = text} {r = r} reads s =
 
 module _ {A : Type 0} (separator : ℕ) (nonzero : 0 < separator) (item : Reader A) (shrinks : (s : Bytes) → Allowed (λ p. length (p .1) ≤ length s) (item s)) where
   -- an item and those behind it
-  abbrev listed : ℕ → Outcome ℕ (A × Bytes) → Outcome ℕ (List A × Bytes)
+  abbrev pub listed : ℕ → Outcome ℕ (A × Bytes) → Outcome ℕ (List A × Bytes)
   listed most o = outcome._>>=_ o λ p. outcome._>>=_ (further separator item most (p .1)) λ q. done (p .0 ∷ q .0, q .1)
 
   abbrev Same : ℕ → ℕ → Type 0
@@ -65,7 +65,7 @@ module _ {A : Type 0} (separator : ℕ) (nonzero : 0 < separator) (item : Reader
       pick true e = e
       pick false e = refl
 
-  listed-separated : (most : ℕ) (s : Bytes) → length s ≤ most → listed most (item s) ≡ separated separator item s
+  pub listed-separated : (most : ℕ) (s : Bytes) → length s ≤ most → listed most (item s) ≡ separated separator item s
   unfolding separated
   listed-separated most s h = pick (item s) (shrinks s)
     where

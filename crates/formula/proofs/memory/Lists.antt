@@ -6,7 +6,7 @@ use native.Mathlib.Numerals.{sub-one}
 use native.Mathlib.Omega.{arith}
 use mathlib.Core.Path.{_≡_, refl, sym, ap, _∙_}
 use mathlib.Core.List.{List, [], _∷_, _++_, append-nil, append-assoc}
-use mathlib.Core.Bool.{Bool, true, false, cond}
+use mathlib.Core.Bool.{Bool, true, false}
 use lib.Dec.{eqb}
 use lib.ListN.{length, drop}
 use lib.Seq.{drop-drop}
@@ -14,10 +14,10 @@ use borrow.Author.Tests.{eq-eqb, ne-eqb, eqb-true, eqb-false}
 use Rattle.text.specs.Bytes.{Bytes, next, begins}
 use Rattle.text.specs.Outcome.{Outcome, done, refused}
 use Rattle.text.specs.Outcome as outcome
-use Rattle.text.specs.Reading.{Reader, give, word, further, separated}
+use Rattle.text.specs.Reading.{Reader, word, further, separated}
 use Rattle.text.proofs.Outcome.{Allowed}
 use Rattle.text.proofs.FoundBytes.{byte-found, byte-missing}
-use Rattle.text.proofs.Separated.{prepended}
+use Rattle.text.proofs.Separated.{prepended, listed-separated}
 use Rattle.formula.specs.memory.Lists.{upTo}
 
 -- one byte
@@ -94,45 +94,9 @@ Shorter s p = length (p .1) ≤ length s
 abbrev pub Shrinks : {A : Type 0} → Reader A → Type 0
 Shrinks item = (s : Bytes) → Allowed (Shorter s) (item s)
 
-module _ {A : Type 0} (item : Reader A) (shrinks : Shrinks item) where
-  -- an item, and those behind it
-  abbrev onward : ℕ → Outcome ℕ (A × Bytes) → Outcome ℕ (List A × Bytes)
-  onward most o = outcome._>>=_ o λ p. outcome._>>=_ (further 44 item most (p .1)) λ q. done (p .0 ∷ q .0, q .1)
-
-  abbrev Alike : ℕ → ℕ → Type 0
-  Alike most more = (s : Bytes) → length s ≤ most → length s ≤ more → further 44 item most s ≡ further 44 item more s
-
-  onward-alike : (most more : ℕ) → Alike most more → (s : Bytes) → length s ≤ most → length s ≤ more → onward most (item s) ≡ onward more (item s)
-  onward-alike most more alike s h k = pick (item s) (shrinks s)
-    where
-      pick : (o : Outcome ℕ (A × Bytes)) → Allowed (Shorter s) o → onward most o ≡ onward more o
-      pick (done p) l = rw (alike (p .1) (omega arith) (omega arith))
-      pick (refused number) l = refl
-
-  further-alike : (most more : ℕ) → Alike most more
-  unfolding further
-  further-alike zero zero s h k = refl
-  further-alike zero (suc more) [] h k = refl
-  further-alike zero (suc more) (b ∷ s) h k = absurd (omega arith)
-  further-alike (suc most) zero [] h k = refl
-  further-alike (suc most) zero (b ∷ s) h k = absurd (omega arith)
-  further-alike (suc most) (suc more) [] h k = refl
-  further-alike (suc most) (suc more) (b ∷ s) h k =
-      pick (eqb b 44) (onward-alike most more (λ t. further-alike most more t) s (omega arith) (omega arith))
-    where
-      pick : (c : Bool) → onward most (item s) ≡ onward more (item s)
-          → cond c (λ t. onward most (item (drop 1 t))) (give []) (b ∷ s) ≡ cond c (λ t. onward more (item (drop 1 t))) (give []) (b ∷ s)
-      pick true e = e
-      pick false e = refl
-
-  pub upTo-separated : (most : ℕ) (s : Bytes) → length s ≤ most → upTo most item s ≡ separated 44 item s
-  unfolding upTo separated
-  upTo-separated most s h = pick (item s) (shrinks s)
-    where
-      pick : (o : Outcome ℕ (A × Bytes)) → Allowed (Shorter s) o
-          → onward most o ≡ outcome._>>=_ o λ p. outcome._>>=_ (further 44 item (length (p .1)) (p .1)) λ q. done (p .0 ∷ q .0, q .1)
-      pick (done p) l = rw (further-alike most (length (p .1)) (p .1) (omega arith) (omega arith))
-      pick (refused number) l = refl
+pub upTo-separated : {A : Type 0} (item : Reader A) → Shrinks item → (most : ℕ) (s : Bytes) → length s ≤ most → upTo most item s ≡ separated 44 item s
+unfolding upTo
+upTo-separated item shrinks most s h = listed-separated 44 (omega arith) item shrinks most s h
 
 -- Two items with a comma between them and a bracket behind them are a list of two.
 

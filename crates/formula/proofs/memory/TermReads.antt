@@ -4,22 +4,20 @@ use Prim.Native.Nat.{ℕ, suc, _+_, _-_, _*_, _≤_, _<_}
 use native.Mathlib.Omega.{arith}
 use mathlib.Core.Path.{_≡_, refl, sym, ap, ap₂, subst, _∙_}
 use mathlib.Core.List.{List, [], _∷_, _++_, append-nil, append-assoc}
-use mathlib.Core.Bool.{Bool, true, false, not, cond, _&&_, _||_, and-true, and-false, and-assoc, false≢true}
+use mathlib.Core.Bool.{Bool, true, false, not, _&&_, _||_, and-true, and-false, and-assoc, false≢true}
 use lib.Dec.{leb}
 use lib.ListN.{length, take, drop, set, length-append, length-drop}
-use lib.Seq.{take-append-seam, drop-drop}
+use lib.Seq.{drop-drop}
 use borrow.Author.Tests.{lt-leb, eq-eqb, ne-eqb}
 use Rattle.text.specs.Bytes.{Bytes, bytes, next, same, span, isDigit, isCapital, isSmall, isSmallOrDigit, isLetterOrDigit}
-use Rattle.text.specs.Numbers.{isNumber, value}
-use Rattle.text.specs.Outcome.{Outcome, done, refused, mapped, provided}
-use Rattle.text.specs.Outcome as outcome
+use Rattle.text.specs.Outcome.{done, refused}
 use Rattle.text.specs.Reading.{Reader, token, readNumber}
 use Rattle.text.specs.Problem.{Name, isElement, isName, readName}
 use Rattle.text.specs.memory.Numbers.{SmallFound, LargeFound}
 use Rattle.text.proofs.Laws.{or-left, Each}
-use Rattle.text.proofs.Outcome.{Allowed}
-use Rattle.text.proofs.Reading.{span-split}
-use Rattle.text.proofs.Separated.{prepended, prepended-none}
+use Rattle.text.proofs.Reading.{span-split, span-take}
+use Rattle.logic.proofs.Reading.{reads-term}
+use Rattle.text.proofs.Separated.{reads-shrinks, prepended, prepended-none}
 use Rattle.text.proofs.FoundBytes.{byte-found}
 use Rattle.logic.specs.Text.{isVariable}
 use Rattle.logic.specs.Formula.{Term, element, variable, Terms, noTerms, term, termsOf}
@@ -39,7 +37,7 @@ use Rattle.formula.specs.memory.Lists.{upTo}
 use Rattle.formula.specs.memory.TermReads.{NameTaken, ToldWord, readElement, readVariableTerm, TermFound, ToldTerm, TermsTaken, TermsFound, ToldTerms, closedUpTo, readTermList}
 use Rattle.formula.proofs.memory.Facts.{and-swap}
 use Rattle.formula.proofs.memory.Entries.{GoesBy, each-left, each-right, entered-none, entered-alike, entered-then, entered-index}
-use Rattle.formula.proofs.memory.Lists.{list-refused, list-full, list-last, list-more, byte-read, byte-refused, Shorter, Shrinks, upTo-separated}
+use Rattle.formula.proofs.memory.Lists.{list-refused, list-full, list-last, list-more, byte-read, byte-refused, upTo-separated}
 
 -- Words.
 
@@ -52,9 +50,6 @@ first-span class test nought within (b ∷ s) = pick (class b) refl
     pick : (c : Bool) → class b ≡ c → let w : Bytes = elim c [ true ↦ b ∷ span class s | false ↦ [] ] in test (next w) ≡ test b
     pick true e = refl
     pick false e = nought ∙ sym (within b e)
-
-take-span : (class : ℕ → Bool) (s : Bytes) → take (length (span class s)) s ≡ span class s
-take-span class s = ap (take (length (span class s))) (span-split class s .1) ∙ take-append-seam (span class s) (drop (length (span class s)) s)
 
 some-span : (class test : ℕ → Bool) → test 0 ≡ false → (s : Bytes) → test (next (span class s)) ≡ true → 0 < length (span class s)
 some-span class test nought s e = pick (span class s) e
@@ -70,7 +65,7 @@ module _ (class : ℕ → Bool) (text : Bytes) (at : ℕ) where
 
   module _ (next : ℕ) (ends : next ≡ at + length run) where
     run-part : take (next - at) (drop at text) ≡ run
-    run-part = let e : next - at ≡ length run = omega arith in rw e (take-span class (drop at text))
+    run-part = let e : next - at ≡ length run = omega arith in rw e (span-take class (drop at text))
 
     token-found : (test : Bytes → Bool) → test run ≡ true → token 5 class test (drop at text) ≡ done (take (next - at) (drop at text), drop next text)
     unfolding token
@@ -350,30 +345,6 @@ module _ (text : Bytes) (n : ℕ) (bound : Name → Bool) (reader : Reader (List
 
 -- The terms of an atom.
 
-shrinks-token : (class : ℕ → Bool) (test : Bytes → Bool) → Shrinks (token 5 class test)
-unfolding token
-shrinks-token class test s = pick (test (span class s))
-  where
-    pick : (b : Bool)
-        → Allowed {E = ℕ} (Shorter {A = Bytes} s) (outcome._>>=_ {A = Unit {0} × Bytes} (mapped (λ u. (u, drop (length (span class s)) s)) (provided b 5)) λ p. done (span class s, p .1))
-    pick true = omega (arith, length-drop (length (span class s)) s)
-    pick false = tt
-
-shrinks-give : {A B : Type 0} (r : Reader A) (f : A → B) → Shrinks r → Shrinks (λ s. outcome._>>=_ (r s) λ p. done (f (p .0), p .1))
-shrinks-give {A} {B} r f shrinks s = pick (r s) (shrinks s)
-  where
-    pick : (o : Outcome ℕ (A × Bytes)) → Allowed (Shorter s) o → Allowed (Shorter {A = B} s) (outcome._>>=_ o λ p. done (f (p .0), p .1))
-    pick (done p) l = l
-    pick (refused number) l = tt
-
-shrinks-term : Shrinks readTerm
-unfolding readTerm readNumber readVariable
-shrinks-term s = pick (isDigit (next s))
-  where
-    pick : (b : Bool) → Allowed (Shorter s) (cond {A = Reader Term} b (λ s. outcome._>>=_ (readNumber 5 s) λ p. done (element (p .0), p .1)) (λ s. outcome._>>=_ (readVariable s) λ p. done (variable (p .0), p .1)) s)
-    pick true = shrinks-give (readNumber 5) element (shrinks-give (token 5 isDigit isNumber) value (shrinks-token isDigit isNumber)) s
-    pick false = shrinks-give readVariable variable (shrinks-token isSmallOrDigit isVariable) s
-
 module _ (text : Bytes) (n : ℕ) (bound : Name → Bool) (at : ℕ) (old : Memory) (to : ℕ) where
   pub arguments-none : at ≤ length text → (next (drop at text) ≡ 40 → ⊥) → TermsFound text n bound readTermList at old to at 0 true old
   unfolding readTermList
@@ -386,7 +357,7 @@ module _ (text : Bytes) (n : ℕ) (bound : Name → Bool) (at : ℕ) (old : Memo
       rw (
         eq-eqb (next (drop at text)) 40 e,
         byte-read text at 40 (omega arith) 5 e,
-        upTo-separated readTerm shrinks-term (length text) (drop (at + 1) text) (omega (arith, length-drop (at + 1) text)),
+        upTo-separated readTerm (reads-shrinks reads-term) (length text) (drop (at + 1) text) (omega (arith, length-drop (at + 1) text)),
       )
 
   pub arguments-some : next (drop at text) ≡ 40 → (r : TermsRead) (new : Memory) → ToldTerms text n bound (closedUpTo (length text)) (at + 1) old to r new
