@@ -5,7 +5,7 @@ use native.Mathlib.Nat.{add-zero}
 use native.Mathlib.Omega.{arith}
 use mathlib.Core.Path.{_≡_, refl, sym, ap₂, _∙_}
 use mathlib.Core.List.{List, [], _∷_, _++_}
-use mathlib.Core.Bool.{Bool, true, false, _&&_, _||_, false≢true}
+use mathlib.Core.Bool.{Bool, true, false, not, _&&_, _||_, Bool·beq, false≢true}
 use lib.Dec.{eqb}
 use lib.ListN.{length, set}
 use lib.Seq.{sets}
@@ -27,6 +27,14 @@ or-left false b e = refl
 pub or-right : (a b : Bool) → (a || b) ≡ false → b ≡ false
 or-right true b e = absurd (false≢true (sym e))
 or-right false b e = e
+
+pub beq-true : (b : Bool) → b ≡ Bool·beq true b
+beq-true true = refl
+beq-true false = refl
+
+pub beq-false : (b : Bool) → not b ≡ Bool·beq false b
+beq-false true = refl
+beq-false false = refl
 
 pub same-refl : (s : Bytes) → same s s ≡ true
 same-refl [] = refl

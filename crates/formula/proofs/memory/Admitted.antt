@@ -54,7 +54,7 @@ module _ (g : ℕ → Bool) (n : ℕ) where
   pub flags-none : (flags : List Bool) (i : ℕ) → i ≡ n → sets flags i (flagsFrom i) ≡ flags
   flags-none flags i e = let f : n - i ≡ 0 = omega arith in rw f
 
-length-countFrom : (n k : ℕ) → length (countFrom k n) ≡ n
+pub length-countFrom : (n k : ℕ) → length (countFrom k n) ≡ n
 length-countFrom zero k = refl
 length-countFrom (suc n) k = ap suc (length-countFrom n (suc k))
 

@@ -5,7 +5,7 @@ use native.Mathlib.Numerals.{add-one, one-add, sub-one}
 use native.Mathlib.Omega.{arith}
 use mathlib.Core.Path.{_≡_, refl, sym, ap, _∙_, fun-ext}
 use mathlib.Core.List.{List, [], _∷_, map}
-use mathlib.Core.Bool.{Bool, true, false, cond, not, _&&_, Bool·beq, and-true, or-true, or-false, false≢true}
+use mathlib.Core.Bool.{Bool, true, false, cond, not, _&&_, and-true, or-true, or-false, false≢true}
 use borrow.Author.Tests.{eq-eqb, ne-eqb, eqb-true, eqb-false}
 use lib.Dec.{eqb}
 use lib.ListN.{length, getD, drop, set, List·getD-eq-default}
@@ -14,6 +14,7 @@ use Rattle.text.specs.Problem.{Name}
 use Rattle.text.specs.memory.Table.{packed}
 use Rattle.text.specs.declared.table.Table.{Table}
 use Rattle.text.proofs.Places.{next-within}
+use Rattle.text.proofs.Laws.{beq-true, beq-false}
 use Rattle.logic.specs.Meaning.{Environment, bind, valueOf, valuesOf, unit, join, joinAll, connect, guarded, countFrom, elementsTo, holds}
 use Rattle.formula.specs.memory.Kinds.{kindOf, kindBy, skip}
 use Rattle.formula.specs.memory.Stored.{indexName, stored, afterFirst, sideOf, connectiveOf, termOf, termsAt, partsBy, formulaBy, formulaAt}
@@ -129,18 +130,10 @@ module _ (o : Sign) (a b : Bool) where
   impliedBy-false e f = rw (e, f) (sym (or-false (not b)))
 
   pub equivalent-true : o ≡ sign.Equivalent → a ≡ true → b ≡ ofTwo
-  equivalent-true e f = rw (e, f) (pick b)
-    where
-      pick : (b : Bool) → b ≡ Bool·beq true b
-      pick true = refl
-      pick false = refl
+  equivalent-true e f = rw (e, f) (beq-true b)
 
   pub equivalent-false : o ≡ sign.Equivalent → a ≡ false → not b ≡ ofTwo
-  equivalent-false e f = rw (e, f) (pick b)
-    where
-      pick : (b : Bool) → not b ≡ Bool·beq false b
-      pick true = refl
-      pick false = refl
+  equivalent-false e f = rw (e, f) (beq-false b)
 
   pub junction-settled : (every : Bool) → o ≡ sign.Junction every → settledBy every a ≡ true → a ≡ ofTwo
   junction-settled every e s = rw e (sym (join-settled every a _ s))

@@ -65,7 +65,8 @@ add-line c =
 
 loop-less : tie.Need-loop-less Inv-loop μ-loop
 loop-less c =
-    let f = line-read (c .before .before .before .before .before) (c .before .if1 .left) in
+    let before = c .before .before .before .before .before in
+    let f = line-read (before) (c .before .if1 .left) in
     omega (arith, f .found .after, f .found .within)
 
 loop-again : tie.Need-loop-again Inv-loop μ-loop

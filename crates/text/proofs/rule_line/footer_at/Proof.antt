@@ -26,15 +26,20 @@ word-end-requires c κs = listed (c .before .before) .found .within
 
 returns-2 : tie.Need-returns-2
 returns-2 c =
+    let before = c .before .before .before .before .before in
+    let names = c .before .before .before .before .before .names in
     let a = c .before .before .before .before .before .before .before .before .before .args in
-    footer-open (listed (c .before .before .before .before .before))
-    (subst (ToldWord (bytes "\n") (a .text .now) (c .before .before .before .before .before .names .given .0 .1 .1 .0)) (c .enum-told2 .given .1) (c .before .before .word-end .ensures))
+    footer-open (listed (before))
+    (subst (ToldWord (bytes "\n") (a .text .now) (names .given .0 .1 .1 .0)) (c .enum-told2 .given .1) (c .before .before .word-end .ensures))
 
 returns-3 : tie.Need-returns-3
 returns-3 c =
+    let word-end = c .before .before .before .word-end in
+    let before = c .before .before .before .before .before .before in
+    let names = c .before .before .before .before .before .before .names in
     let a = c .before .before .before .before .before .before .before .before .before .before .args in
-    footer-found (listed (c .before .before .before .before .before .before))
-    (subst (ToldWord (bytes "\n") (a .text .now) (c .before .before .before .before .before .before .names .given .0 .1 .1 .0)) (c .before .end .given .1) (c .before .before .before .word-end .ensures))
+    footer-found (listed (before))
+    (subst (ToldWord (bytes "\n") (a .text .now) (names .given .0 .1 .1 .0)) (c .before .end .given .1) (word-end .ensures))
 
 pub footer-at-spec : {M : Type 1} → statement M
 footer-at-spec =

@@ -39,8 +39,9 @@ sub-if2 c = omega (arith, c .before .run-end .ensures .0)
 
 returns-3 : tie.Need-returns-3
 returns-3 c =
+    let before = c .before .before .before .before in
     let a = c .before .before .before .before .before .before .before .before .before .args in
-    grounder-long (a .text .now) (a .at) _ (marked (c .before .before .before .before)) _ (c .before .before .run-end .ensures .0) (c .if2 .taken)
+    grounder-long (a .text .now) (a .at) _ (marked (before)) _ (c .before .before .run-end .ensures .0) (c .if2 .taken)
 
 word-end-requires-2 : tie.Need-word-end-requires-2
 word-end-requires-2 c κs =
@@ -49,9 +50,12 @@ word-end-requires-2 c κs =
 
 returns-4 : tie.Need-returns-4
 returns-4 c =
+    let if1 = c .before .before .before .if1 in
+    let run-end = c .before .before .before .before .run-end in
+    let before = c .before .before .before .before .before .before in
     let a = c .before .before .before .before .before .before .before .before .before .before .before .args in
-    grounder-told (a .text .now) (a .at) _ (marked (c .before .before .before .before .before .before)) _ (c .before .before .before .before .run-end .ensures .0) (c .before .before .before .before .run-end .ensures .1)
-    (c .before .before .before .if1 .left) (c .before .before .if2 .left)
+    grounder-told (a .text .now) (a .at) _ (marked (before)) _ (run-end .ensures .0) (run-end .ensures .1)
+    (if1 .left) (c .before .before .if2 .left)
     (c .word-end2 .result) (c .word-end2 .ensures)
 
 pub grounder-end-spec : {M : Type 1} → statement M

@@ -82,36 +82,41 @@ returns c =
 returns-2 : tie.Need-returns-2
 unfolding readLine lineKinds
 returns-2 c =
-    let a = c .before .before .before .before .before .before .before .args in
-    kind-this (a .text .now) (a .at) _ _ _ (passed-1 (c .before .before .before)) (c .before .before .before .before .before .before .before .pre)
+    let start = c .before .before .before .before .before .before .before in
+    let a = start .args in
+    kind-this (a .text .now) (a .at) _ _ _ (passed-1 (c .before .before .before)) (start .pre)
     (sym (c .before .begins-at2 .ensures) ∙ c .if2 .taken) (omega arith)
 
 returns-3 : tie.Need-returns-3
 unfolding readLine lineKinds
 returns-3 c =
-    let a = c .before .before .before .before .before .before .before .before .before .before .args in
-    kind-this (a .text .now) (a .at) _ _ _ (passed-2 (c .before .before .before)) (c .before .before .before .before .before .before .before .before .before .before .pre)
+    let start = c .before .before .before .before .before .before .before .before .before .before in
+    let a = start .args in
+    kind-this (a .text .now) (a .at) _ _ _ (passed-2 (c .before .before .before)) (start .pre)
     (sym (c .before .begins-at3 .ensures) ∙ c .if3 .taken) (omega arith)
 
 returns-4 : tie.Need-returns-4
 unfolding readLine lineKinds
 returns-4 c =
-    let a = c .before .before .before .before .before .before .before .before .before .before .before .before .before .args in
-    kind-this (a .text .now) (a .at) _ _ _ (passed-3 (c .before .before .before)) (c .before .before .before .before .before .before .before .before .before .before .before .before .before .pre)
+    let start = c .before .before .before .before .before .before .before .before .before .before .before .before .before in
+    let a = start .args in
+    kind-this (a .text .now) (a .at) _ _ _ (passed-3 (c .before .before .before)) (start .pre)
     (sym (c .before .begins-at4 .ensures) ∙ c .if4 .taken) (omega arith)
 
 returns-5 : tie.Need-returns-5
 unfolding readLine lineKinds
 returns-5 c =
-    let a = c .before .before .before .before .before .before .before .before .before .before .before .before .before .before .before .before .args in
-    kind-this (a .text .now) (a .at) _ _ _ (passed-4 (c .before .before .before)) (c .before .before .before .before .before .before .before .before .before .before .before .before .before .before .before .before .pre)
+    let start = c .before .before .before .before .before .before .before .before .before .before .before .before .before .before .before .before in
+    let a = start .args in
+    kind-this (a .text .now) (a .at) _ _ _ (passed-4 (c .before .before .before)) (start .pre)
     (sym (c .before .begins-at5 .ensures) ∙ c .if5 .taken) (omega arith)
 
 returns-6 : tie.Need-returns-6
 unfolding readLine lineKinds
 returns-6 c =
-    let a = c .before .before .before .before .before .before .before .before .before .before .before .before .before .before .before .before .before .before .before .args in
-    kind-this (a .text .now) (a .at) _ _ _ (passed-5 (c .before .before .before)) (c .before .before .before .before .before .before .before .before .before .before .before .before .before .before .before .before .before .before .before .pre)
+    let start = c .before .before .before .before .before .before .before .before .before .before .before .before .before .before .before .before .before .before .before in
+    let a = start .args in
+    kind-this (a .text .now) (a .at) _ _ _ (passed-5 (c .before .before .before)) (start .pre)
     (sym (c .before .begins-at6 .ensures) ∙ c .if6 .taken) (omega arith)
 
 returns-7 : tie.Need-returns-7

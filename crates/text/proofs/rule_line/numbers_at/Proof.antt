@@ -30,12 +30,15 @@ loop-holds c =
     numbers-first (a .least) (a .greatest) (a .text .now) (a .at) (c .before .pre .0)
 
 add-many : tie.Need-add-many Inv-loop μ-loop
-add-many c = let f = found (c .before) in omega (arith, f .found .within, c .before .before .before .before .loop .inv .few, f .after)
+add-many c =
+    let loop = c .before .before .before .before .loop in
+    let f = found (c .before) in omega (arith, f .found .within, loop .inv .few, f .after)
 
 returns : tie.Need-returns Inv-loop μ-loop
 returns c =
+    let loop = c .before .before .before .before .before .before .loop in
     let a = c .before .before .before .before .before .before .before .before .args in
-    numbers-last (a .least) (a .greatest) (a .text .now) (a .at) (c .before .before .before .before .before .before .loop .i) (c .before .before .before .before .before .before .loop .many) (c .before .before .before .before .before .before .loop .inv) _ _
+    numbers-last (a .least) (a .greatest) (a .text .now) (a .at) (loop .i) (loop .many) (loop .inv) _ _
     (found (c .before .before .before))
     (λ e. c .if1 .taken (c .before .peek .ensures ∙ e))
 
@@ -43,12 +46,15 @@ add-i : tie.Need-add-i Inv-loop μ-loop
 add-i c = let f = found (c .before .before .before) in omega (arith, f .found .within)
 
 loop-less : tie.Need-loop-less Inv-loop μ-loop
-loop-less c = let f = found (c .before .before .before) in omega (arith, f .found .within, f .after, c .before .before .before .before .before .before .loop .inv .within)
+loop-less c =
+    let loop = c .before .before .before .before .before .before .loop in
+    let f = found (c .before .before .before) in omega (arith, f .found .within, f .after, loop .inv .within)
 
 loop-again : tie.Need-loop-again Inv-loop μ-loop
 loop-again c =
+    let loop = c .before .before .before .before .before .before .loop in
     let a = c .before .before .before .before .before .before .before .before .args in
-    numbers-on (a .least) (a .greatest) (a .text .now) (a .at) (c .before .before .before .before .before .before .loop .i) (c .before .before .before .before .before .before .loop .many) (c .before .before .before .before .before .before .loop .inv) _ _
+    numbers-on (a .least) (a .greatest) (a .text .now) (a .at) (loop .i) (loop .many) (loop .inv) _ _
     (found (c .before .before .before))
     (sym (c .before .peek .ensures) ∙ c .if1 .left)
 

@@ -62,22 +62,25 @@ returns c =
 returns-2 : tie.Need-returns-2
 unfolding lineKinds
 returns-2 c =
-    let a = c .before .before .before .before .before .before .before .args in
-    kind-this (a .text .now) (a .at) _ _ _ (passed-1 (c .before .before .before)) (c .before .before .before .before .before .before .before .pre)
+    let start = c .before .before .before .before .before .before .before in
+    let a = start .args in
+    kind-this (a .text .now) (a .at) _ _ _ (passed-1 (c .before .before .before)) (start .pre)
     (sym (c .before .begins-at2 .ensures) ∙ c .if2 .taken) (omega arith)
 
 returns-3 : tie.Need-returns-3
 unfolding lineKinds
 returns-3 c =
-    let a = c .before .before .before .before .before .before .before .before .before .before .args in
-    kind-this (a .text .now) (a .at) _ _ _ (passed-2 (c .before .before .before)) (c .before .before .before .before .before .before .before .before .before .before .pre)
+    let start = c .before .before .before .before .before .before .before .before .before .before in
+    let a = start .args in
+    kind-this (a .text .now) (a .at) _ _ _ (passed-2 (c .before .before .before)) (start .pre)
     (sym (c .before .begins-at3 .ensures) ∙ c .if3 .taken) (omega arith)
 
 returns-4 : tie.Need-returns-4
 unfolding lineKinds
 returns-4 c =
-    let a = c .before .before .before .before .before .before .before .before .before .before .before .before .before .args in
-    kind-this (a .text .now) (a .at) _ _ _ (passed-3 (c .before .before .before)) (c .before .before .before .before .before .before .before .before .before .before .before .before .before .pre)
+    let start = c .before .before .before .before .before .before .before .before .before .before .before .before .before in
+    let a = start .args in
+    kind-this (a .text .now) (a .at) _ _ _ (passed-3 (c .before .before .before)) (start .pre)
     (sym (c .before .begins-at4 .ensures) ∙ c .if4 .taken) (omega arith)
 
 returns-5 : tie.Need-returns-5

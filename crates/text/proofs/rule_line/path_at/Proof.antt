@@ -39,24 +39,33 @@ numbers-at-requires c κs = (bracket (c .before) .within, omega arith)
 
 returns-2 : tie.Need-returns-2
 returns-2 c =
+    let before = c .before .before .before .before in
+    let start = c .before .before .before .before .start in
     let a = c .before .before .before .before .before .before .before .before .before .args in
-    path-refused (bracket (c .before .before .before .before))
-    (subst (ToldNumbers (separated 44 (readRanged 0 4095)) (a .text .now) (c .before .before .before .before .start .given .0 .0)) (c .enum-told2 .given .1) (c .before .before .numbers-at .ensures))
+    path-refused (bracket (before))
+    (subst (ToldNumbers (separated 44 (readRanged 0 4095)) (a .text .now) (start .given .0 .0)) (c .enum-told2 .given .1) (c .before .before .numbers-at .ensures))
 
 word-end-requires-2 : tie.Need-word-end-requires-2
 word-end-requires-2 c κs = numbers (c .before .before) .found .within
 
 returns-3 : tie.Need-returns-3
 returns-3 c =
+    let before = c .before .before .before .before .before in
+    let first = c .before .before .before .before .before .first in
+    let before-told = c .before .before .before .before .before .before .before .before .before in
     let a = c .before .before .before .before .before .before .before .before .before .before .before .before .before .before .args in
-    path-open (bracket (c .before .before .before .before .before .before .before .before .before)) (numbers (c .before .before .before .before .before))
-    (subst (ToldWord (bytes "]") (a .text .now) (c .before .before .before .before .before .first .given .0 .1 .1 .0)) (c .enum-told3 .given .1) (c .before .before .word-end2 .ensures))
+    path-open (bracket (before-told)) (numbers (before))
+    (subst (ToldWord (bytes "]") (a .text .now) (first .given .0 .1 .1 .0)) (c .enum-told3 .given .1) (c .before .before .word-end2 .ensures))
 
 returns-4 : tie.Need-returns-4
 returns-4 c =
+    let word-end2 = c .before .before .before .word-end2 in
+    let before = c .before .before .before .before .before .before in
+    let first = c .before .before .before .before .before .before .first in
+    let before-told = c .before .before .before .before .before .before .before .before .before .before in
     let a = c .before .before .before .before .before .before .before .before .before .before .before .before .before .before .before .args in
-    path-found (bracket (c .before .before .before .before .before .before .before .before .before .before)) (numbers (c .before .before .before .before .before .before))
-    (subst (ToldWord (bytes "]") (a .text .now) (c .before .before .before .before .before .before .first .given .0 .1 .1 .0)) (c .before .end .given .1) (c .before .before .before .word-end2 .ensures))
+    path-found (bracket (before-told)) (numbers (before))
+    (subst (ToldWord (bytes "]") (a .text .now) (first .given .0 .1 .1 .0)) (c .before .end .given .1) (word-end2 .ensures))
 
 pub path-at-spec : {M : Type 1} → statement M
 path-at-spec =

@@ -26,15 +26,20 @@ path-at-requires c κs = named (c .before) .found .within
 
 returns-2 : tie.Need-returns-2
 returns-2 c =
+    let before = c .before .before .before .before in
+    let name = c .before .before .before .before .name in
     let a = c .before .before .before .before .before .before .before .before .args in
-    position-refused (named (c .before .before .before .before))
-    (subst (ToldNumbers readPath (a .text .now) (c .before .before .before .before .name .given .0 .1 .0)) (c .enum-told2 .given .1) (c .before .before .path-at .ensures))
+    position-refused (named (before))
+    (subst (ToldNumbers readPath (a .text .now) (name .given .0 .1 .0)) (c .enum-told2 .given .1) (c .before .before .path-at .ensures))
 
 returns-3 : tie.Need-returns-3
 returns-3 c =
+    let path-at = c .before .before .before .path-at in
+    let before = c .before .before .before .before .before in
+    let name = c .before .before .before .before .before .name in
     let a = c .before .before .before .before .before .before .before .before .before .args in
-    position-found (named (c .before .before .before .before .before))
-    (subst (ToldNumbers readPath (a .text .now) (c .before .before .before .before .before .name .given .0 .1 .0)) (c .before .path .given .1) (c .before .before .before .path-at .ensures))
+    position-found (named (before))
+    (subst (ToldNumbers readPath (a .text .now) (name .given .0 .1 .0)) (c .before .path .given .1) (path-at .ensures))
 
 pub position-at-spec : {M : Type 1} → statement M
 position-at-spec =

@@ -27,30 +27,44 @@ word-end-requires c κs = position (c .before .before) .found .within
 
 returns-2 : tie.Need-returns-2
 returns-2 c =
+    let before = c .before .before .before .before .before in
+    let name = c .before .before .before .before .before .name in
     let a = c .before .before .before .before .before .before .before .before .before .args in
-    last-open (makeOf (a .kind)) (position (c .before .before .before .before .before))
-    (subst (ToldWord (bytes "\n") (a .text .now) (c .before .before .before .before .before .name .given .0 .1 .1 .1 .0)) (c .enum-told2 .given .1) (c .before .before .word-end .ensures))
+    last-open (makeOf (a .kind)) (position (before))
+    (subst (ToldWord (bytes "\n") (a .text .now) (name .given .0 .1 .1 .1 .0)) (c .enum-told2 .given .1) (c .before .before .word-end .ensures))
 
 returns-3 : tie.Need-returns-3
 returns-3 c =
+    let next = c .before .before .before .before .next in
+    let word-end = c .before .before .before .before .before .before .word-end in
+    let before = c .before .before .before .before .before .before .before .before .before in
+    let name = c .before .before .before .before .before .before .before .before .before .name in
     let a = c .before .before .before .before .before .before .before .before .before .before .before .before .before .args in
     rw (c .before .kind .given .1)
-    (last-found (rewrite (ruleOf (c .before .kind .given .0 .0))) (position (c .before .before .before .before .before .before .before .before .before))
-    (subst (ToldWord (bytes "\n") (a .text .now) (c .before .before .before .before .before .before .before .before .before .name .given .0 .1 .1 .1 .0)) (c .before .before .before .before .next .given .1) (c .before .before .before .before .before .before .word-end .ensures)))
+    (last-found (rewrite (ruleOf (c .before .kind .given .0 .0))) (position (before))
+    (subst (ToldWord (bytes "\n") (a .text .now) (name .given .0 .1 .1 .1 .0)) (next .given .1) (word-end .ensures)))
 
 returns-4 : tie.Need-returns-4
 returns-4 c =
+    let next = c .before .before .before .next in
+    let word-end = c .before .before .before .before .before .word-end in
+    let before = c .before .before .before .before .before .before .before .before in
+    let name = c .before .before .before .before .before .before .before .before .name in
     let a = c .before .before .before .before .before .before .before .before .before .before .before .before .args in
     rw (c .enum-told3 .given .1)
-    (last-found unsat (position (c .before .before .before .before .before .before .before .before))
-    (subst (ToldWord (bytes "\n") (a .text .now) (c .before .before .before .before .before .before .before .before .name .given .0 .1 .1 .1 .0)) (c .before .before .before .next .given .1) (c .before .before .before .before .before .word-end .ensures)))
+    (last-found unsat (position (before))
+    (subst (ToldWord (bytes "\n") (a .text .now) (name .given .0 .1 .1 .1 .0)) (next .given .1) (word-end .ensures)))
 
 returns-5 : tie.Need-returns-5
 returns-5 c =
+    let next = c .before .before .before .next in
+    let word-end = c .before .before .before .before .before .word-end in
+    let before = c .before .before .before .before .before .before .before .before in
+    let name = c .before .before .before .before .before .before .before .before .name in
     let a = c .before .before .before .before .before .before .before .before .before .before .before .before .args in
     rw (c .enum-told4 .given .1)
-    (last-found trivial (position (c .before .before .before .before .before .before .before .before))
-    (subst (ToldWord (bytes "\n") (a .text .now) (c .before .before .before .before .before .before .before .before .name .given .0 .1 .1 .1 .0)) (c .before .before .before .next .given .1) (c .before .before .before .before .before .word-end .ensures)))
+    (last-found trivial (position (before))
+    (subst (ToldWord (bytes "\n") (a .text .now) (name .given .0 .1 .1 .1 .0)) (next .given .1) (word-end .ensures)))
 
 pub position-line-at-spec : {M : Type 1} → statement M
 position-line-at-spec =

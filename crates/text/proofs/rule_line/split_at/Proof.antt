@@ -46,33 +46,47 @@ word-end-requires c κs = position (c .before .before) .found .within
 
 returns-2 : tie.Need-returns-2
 returns-2 c =
+    let before = c .before .before .before .before .before in
+    let name = c .before .before .before .before .before .name in
     let a = c .before .before .before .before .before .before .before .before .before .args in
-    split-unmarked (position (c .before .before .before .before .before))
-    (subst (ToldWord (bytes " -> ") (a .text .now) (c .before .before .before .before .before .name .given .0 .1 .1 .1 .0)) (c .enum-told2 .given .1) (c .before .before .word-end .ensures))
+    split-unmarked (position (before))
+    (subst (ToldWord (bytes " -> ") (a .text .now) (name .given .0 .1 .1 .1 .0)) (c .enum-told2 .given .1) (c .before .before .word-end .ensures))
 
 numbers-at-requires : tie.Need-numbers-at-requires
 numbers-at-requires c κs = (arrow (c .before) .within, omega arith)
 
 returns-3 : tie.Need-returns-3
 returns-3 c =
+    let before = c .before .before .before .before in
+    let start = c .before .before .before .before .start in
+    let before-told = c .before .before .before .before .before .before .before .before .before in
     let a = c .before .before .before .before .before .before .before .before .before .before .before .before .before .args in
-    split-unnamed (position (c .before .before .before .before .before .before .before .before .before)) (arrow (c .before .before .before .before))
-    (subst (ToldNumbers (separated 44 (readRanged 1 65535)) (a .text .now) (c .before .before .before .before .start .given .0 .0)) (c .enum-told3 .given .1) (c .before .before .numbers-at .ensures))
+    split-unnamed (position (before-told)) (arrow (before))
+    (subst (ToldNumbers (separated 44 (readRanged 1 65535)) (a .text .now) (start .given .0 .0)) (c .enum-told3 .given .1) (c .before .before .numbers-at .ensures))
 
 word-end-requires-2 : tie.Need-word-end-requires-2
 word-end-requires-2 c κs = listed (c .before .before) .found .within
 
 returns-4 : tie.Need-returns-4
 returns-4 c =
+    let before = c .before .before .before .before .before in
+    let names = c .before .before .before .before .before .names in
+    let before-told = c .before .before .before .before .before .before .before .before .before in
+    let before-told-told = c .before .before .before .before .before .before .before .before .before .before .before .before .before .before in
     let a = c .before .before .before .before .before .before .before .before .before .before .before .before .before .before .before .before .before .before .args in
-    split-open (position (c .before .before .before .before .before .before .before .before .before .before .before .before .before .before)) (arrow (c .before .before .before .before .before .before .before .before .before)) (listed (c .before .before .before .before .before))
-    (subst (ToldWord (bytes "\n") (a .text .now) (c .before .before .before .before .before .names .given .0 .1 .1 .0)) (c .enum-told4 .given .1) (c .before .before .word-end2 .ensures))
+    split-open (position (before-told-told)) (arrow (before-told)) (listed (before))
+    (subst (ToldWord (bytes "\n") (a .text .now) (names .given .0 .1 .1 .0)) (c .enum-told4 .given .1) (c .before .before .word-end2 .ensures))
 
 returns-5 : tie.Need-returns-5
 returns-5 c =
+    let word-end2 = c .before .before .before .word-end2 in
+    let before = c .before .before .before .before .before .before in
+    let names = c .before .before .before .before .before .before .names in
+    let before-told = c .before .before .before .before .before .before .before .before .before .before in
+    let before-told-told = c .before .before .before .before .before .before .before .before .before .before .before .before .before .before .before in
     let a = c .before .before .before .before .before .before .before .before .before .before .before .before .before .before .before .before .before .before .before .args in
-    split-found (position (c .before .before .before .before .before .before .before .before .before .before .before .before .before .before .before)) (arrow (c .before .before .before .before .before .before .before .before .before .before)) (listed (c .before .before .before .before .before .before))
-    (subst (ToldWord (bytes "\n") (a .text .now) (c .before .before .before .before .before .before .names .given .0 .1 .1 .0)) (c .before .end .given .1) (c .before .before .before .word-end2 .ensures))
+    split-found (position (before-told-told)) (arrow (before-told)) (listed (before))
+    (subst (ToldWord (bytes "\n") (a .text .now) (names .given .0 .1 .1 .0)) (c .before .end .given .1) (word-end2 .ensures))
 
 pub split-at-spec : {M : Type 1} → statement M
 split-at-spec =
