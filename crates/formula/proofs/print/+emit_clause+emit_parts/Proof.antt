@@ -3,7 +3,7 @@
 -- Assumes nothing.
 use borrow.Author.Needs.{needs}
 use native.Mathlib.Omega.{arith}
-use Prim.Native.Nat.{_+_, _-_, _≤_}
+use Prim.Native.Nat.{ℕ, _+_, _-_, _≤_, _<_}
 use mathlib.Core.Path.{_≡_, refl, sym, ap, _∙_}
 use lib.ListN.{length, drop}
 use Rattle.text.specs.Bytes.{joined, followed}
@@ -11,7 +11,6 @@ use Rattle.formula.specs.memory.ClauseText.{partTexts, clauseText}
 use Rattle.formula.proofs.memory.Cursor.{Remains, remains-all, remains-next, remains-last, print-as, print-then, print-nothing}
 use Rattle.formula.proofs.memory.ClauseText.{parts-none, parts-more, clause-no-level, clause-beyond, clause-kind}
 use mathlib.Core.List.{_∷_}
-use Prim.Native.Nat.{ℕ, _<_}
 use borrow.Fn.Kinds.{In}
 use borrow.Fn.PlainCycle.{Measures, is, falls, and}
 use Rattle.formula.proofs.print.emit_clause.Reads as emit-clause
@@ -71,17 +70,18 @@ emit-clause-returns-2 t c =
 
 emit-clause-returns-3 : (t : ℕ) → emit-clause-lts.Need-returns-3 (emit-clause-calls t) (emit-clause-at t) emit-clause.Post
 emit-clause-returns-3 t c =
-    let emit-parts-told = c .before .before .before .before .before .before .emit-parts in
-    let subformula-count = c .before .before .before .before .before .before .before .before .subformula-count in
-    let emit-opening = c .before .before .before .before .before .before .before .before .before .before .before .emit-opening in
-    let kind-of = c .before .before .before .before .before .before .before .before .before .before .before .before .before .kind-of in
-    let if2 = c .before .before .before .before .before .before .before .before .before .before .before .before .before .before .before .if2 in
-    let if1 = c .before .before .before .before .before .before .before .before .before .before .before .before .before .before .before .before .if1 in
-    let a = c .before .before .before .before .before .before .before .before .before .before .before .before .before .before .before .before .before .before .before .before .before .args in
-    print-as (clause-kind (a .problem .now) (a .table) (a .work .now) (a .at) (a .levels) _ (if1 .left) (if2 .left) (sym (kind-of .ensures)))
-    (print-then (emit-opening .ensures)
-    (print-then (print-as (ap (λ (n : ℕ). joined 44 (partTexts (clauseText (a .problem .now) (a .table) (a .levels - 1)) n (drop (a .at + 1) (a .work .now)))) (sym (subformula-count .ensures))) (emit-parts-told .ensures))
-    (c .before .before .emit-closing .ensures)))
+    let closed = c .before .before in
+    let parts = closed .before .before .before .before in
+    let counted = parts .before .before in
+    let opened = counted .before .before .before in
+    let known = opened .before .before in
+    let within = known .before .before in
+    let some = within .before in
+    let a = some .before .before .before .before .before .args in
+    print-as (clause-kind (a .problem .now) (a .table) (a .work .now) (a .at) (a .levels) _ (some .if1 .left) (within .if2 .left) (sym (known .kind-of .ensures)))
+    (print-then (opened .emit-opening .ensures)
+    (print-then (print-as (ap (λ (n : ℕ). joined 44 (partTexts (clauseText (a .problem .now) (a .table) (a .levels - 1)) n (drop (a .at + 1) (a .work .now)))) (sym (counted .subformula-count .ensures))) (parts .emit-parts .ensures))
+    (closed .emit-closing .ensures)))
 
 abbrev emit-parts-Inv-loop : emit-parts-lts.InvT-loop
 emit-parts-Inv-loop work at levels count problem table claim store out₀ last₀ i₀ pending₀ out last i pending =
@@ -102,40 +102,41 @@ emit-parts-loop-holds t c = (c .past .ensures .1, refl, remains-all)
 
 emit-parts-past-requires-2 : (t : ℕ) → emit-parts-lts.Need-past-requires-2 (emit-parts-calls t) (emit-parts-at t) emit-parts.Post emit-parts-Inv-loop emit-parts-μ-loop
 emit-parts-past-requires-2 t c κs =
-    let loop = c .before .before .before .before .before .before .before .before .before .loop in
-    let start = c .before .before .before .before .before .before .before .before .before .before .before .before .before .before .before .before .before .before .before .before in
-    omega (arith, start .pre, loop .inv .0)
+    let turn = c .before .before .before .before .before .before .before .before .before in
+    omega (arith, turn .before .before .before .before .before .before .before .before .before .before .before .pre, turn .loop .inv .0)
 
 emit-parts-loop-again : (t : ℕ) → emit-parts-lts.Need-loop-again (emit-parts-calls t) (emit-parts-at t) emit-parts.Post emit-parts-Inv-loop emit-parts-μ-loop
 emit-parts-loop-again t c =
-    let emit-clause2 = c .before .before .before .emit-clause2 in
-    let emit = c .before .before .before .before .before .before .before .emit in
-    let loop-test = c .before .before .before .before .before .before .before .before .before .loop-test in
-    let loop = c .before .before .before .before .before .before .before .before .before .before .loop in
-    let a = c .before .before .before .before .before .before .before .before .before .before .before .before .before .before .before .before .before .before .before .before .before .args in
-    let l = loop in
-    let t = clauseText (a .problem .now) (a .table) (a .levels) in (
+    let printed = c .before .before .before in
+    let comma = printed .before .before .before .before in
+    let some = comma .before .before in
+    let turn = some .before in
+    let a = turn .before .before .before .before .before .before .before .before .before .before .before .args in
+    let l = turn .loop in
+    let clause = clauseText (a .problem .now) (a .table) (a .levels) in (
       c .past2 .ensures .1,
-      emit-clause2 .kept .1 .1 .1 .1 .1 .1 .1 .1 .0 ∙ (emit .kept .1 .1 .1 .1 .0 ∙ l .inv .1),
+      printed .emit-clause2 .kept .1 .1 .1 .1 .1 .1 .1 .1 .0 ∙ (comma .emit .kept .1 .1 .1 .1 .0 ∙ l .inv .1),
       remains-next (l .inv .2)
-          (parts-more (a .work .now) (l .i) (l .pending) (loop-test .taken) t ∙ ap (λ (j : ℕ). t (drop (l .i) (a .work .now)) ∷ partTexts t (l .pending - 1) (drop j (a .work .now))) (sym (c .past2 .ensures .0)))
-          (emit .ensures) (emit-clause2 .ensures),
+          (parts-more (a .work .now) (l .i) (l .pending) (some .loop-test .taken) clause ∙ ap (λ (j : ℕ). clause (drop (l .i) (a .work .now)) ∷ partTexts clause (l .pending - 1) (drop j (a .work .now))) (sym (c .past2 .ensures .0)))
+          (comma .emit .ensures) (printed .emit-clause2 .ensures),
     )
 
 emit-parts-same-length : (t : ℕ) → emit-parts-lts.Need-same-length (emit-parts-calls t) (emit-parts-at t) emit-parts.Post emit-parts-Inv-loop emit-parts-μ-loop
 emit-parts-same-length t c =
-    let emit-clause-told = c .before .before .before .before .before .emit-clause in
-    c .before .loop .inv .1 ∙ emit-clause-told .kept .1 .1 .1 .1 .1 .1 .1 .1 .0
+    let turn = c .before in
+    turn .loop .inv .1 ∙ turn .before .before .before .before .emit-clause .kept .1 .1 .1 .1 .1 .1 .1 .1 .0
 
 emit-parts-returns-2 : (t : ℕ) → emit-parts-lts.Need-returns-2 (emit-parts-calls t) (emit-parts-at t) emit-parts.Post emit-parts-Inv-loop emit-parts-μ-loop
 emit-parts-returns-2 t c =
-    let emit-clause-told = c .before .before .before .before .before .emit-clause in
-    let if1 = c .before .before .before .before .before .before .before .if1 in
-    let a = c .before .before .before .before .before .before .before .before .before .before .before .before .args in
-    let l = c .before .loop in
-    let t = clauseText (a .problem .now) (a .table) (a .levels) in
-    print-as (ap (joined 44) (parts-more (a .work .now) (a .at) (a .count) (omega (arith, if1 .left)) t ∙ ap (λ (j : ℕ). t (drop (a .at) (a .work .now)) ∷ partTexts t (a .count - 1) (drop j (a .work .now))) (sym (c .before .before .past .ensures .0))))
-    (print-then (emit-clause-told .ensures) (remains-last (l .inv .2) (parts-none t (l .pending) (drop (l .i) (a .work .now)) (omega arith))))
+    let turn = c .before in
+    let passed = turn .before in
+    let printed = passed .before .before .before in
+    let some = printed .before .before in
+    let a = some .before .before .before .before .before .args in
+    let l = turn .loop in
+    let clause = clauseText (a .problem .now) (a .table) (a .levels) in
+    print-as (ap (joined 44) (parts-more (a .work .now) (a .at) (a .count) (omega (arith, some .if1 .left)) clause ∙ ap (λ (j : ℕ). clause (drop (a .at) (a .work .now)) ∷ partTexts clause (a .count - 1) (drop j (a .work .now))) (sym (passed .past .ensures .0))))
+    (print-then (printed .emit-clause .ensures) (remains-last (l .inv .2) (parts-none clause (l .pending) (drop (l .i) (a .work .now)) (omega arith))))
 
 pub +emit-clause+emit-parts-spec : {M : Type 1} → statement M
 +emit-clause+emit-parts-spec = close μ-emit-clause μ-emit-parts (λ t. emit-clause-lts.spec (emit-clause-calls t)

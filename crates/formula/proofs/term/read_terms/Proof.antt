@@ -8,6 +8,7 @@ use lib.ListN.{length}
 use Rattle.logic.specs.Reading.{readTerm}
 use Rattle.formula.specs.memory.Bindings.{boundIn}
 use Rattle.formula.specs.memory.Entries.{memory}
+use Rattle.formula.specs.memory.TermReads.{TermFound}
 use Rattle.formula.proofs.memory.TermReads.{term-done, term-malformed, TermsPassed, terms-first, terms-refused, terms-full, terms-last, terms-on}
 use Rattle.formula.proofs.term.read_terms.Statement.{statement}
 use Rattle.formula.proofs.term.read_terms.Tie as tie
@@ -19,6 +20,17 @@ Inv-loop text at most scope domain names₀ work₀ to i₀ more₀ count₀ all
 abbrev μ-loop : tie.MeasureT-loop
 μ-loop text at most scope domain names₀ work₀ to i₀ more₀ count₀ all₀ names work i more count all = more
 
+-- the term that was read
+term-found : (c : tie.After-next Inv-loop μ-loop)
+    → let read = c .before .before .before .before in
+    let passed = read .before .before .before in
+    let l = passed .loop in
+    let a = passed .before .before .before .args in
+    let told = c .next .given .0 in
+    let last = read .read-term .last .1 .1 .1 .1 in
+    TermFound (a .text .now) (a .domain) (boundIn (a .text .now) (a .scope)) readTerm (l .i) (memory (l .names) (l .work)) (a .to + l .count) (told .0) (told .1 .0) (memory (last .0) (last .1 .0))
+term-found c = term-done _ _ _ _ _ _ _ _ _ (c .before .before .before .before .read-term .ensures) _ _ (c .next .given .1)
+
 loop-holds : tie.Need-loop-holds Inv-loop μ-loop
 loop-holds c =
     let start = c .before .before in
@@ -27,62 +39,31 @@ loop-holds c =
 
 returns : tie.Need-returns Inv-loop μ-loop
 returns c =
-    let next = c .before .before .before .next in
-    let read-term = c .before .before .before .before .before .before .before .read-term in
-    let loop = c .before .before .before .before .before .before .before .before .before .before .loop in
-    let a = c .before .before .before .before .before .before .before .before .before .before .before .before .before .args in
-    let l = loop in
-    rw (c .before .both .ensures)
-    (terms-full (a .text .now) (a .domain) (boundIn (a .text .now) (a .scope)) (a .most) (a .at) (memory (a .names .now) (a .work .now)) (a .to) (l .i) (l .more) (l .count) (l .all) (memory (l .names) (l .work)) (l .inv .0) (next .given .0 .0) (next .given .0 .1 .0) _
-    (term-done (a .text .now) (a .domain) (boundIn (a .text .now) (a .scope)) readTerm (l .i) (memory (l .names) (l .work)) (a .to + l .count) _ (read-term .result) (read-term .ensures) _ _ (next .given .1))
-    (c .if1 .taken))
+    let read = c .before .before .before in
+    rw (c .before .both .ensures) (terms-full _ _ _ _ _ _ _ _ _ _ _ _ (read .before .before .before .before .before .before .before .loop .inv .0) _ _ _ (term-found read) (c .if1 .taken))
 
 returns-2 : tie.Need-returns-2 Inv-loop μ-loop
 returns-2 c =
-    let both = c .before .before .before .both in
-    let next = c .before .before .before .before .before .next in
-    let read-term = c .before .before .before .before .before .before .before .before .before .read-term in
-    let loop = c .before .before .before .before .before .before .before .before .before .before .before .before .loop in
-    let a = c .before .before .before .before .before .before .before .before .before .before .before .before .before .before .before .args in
-    let l = loop in
-    rw (both .ensures)
-    (terms-last (a .text .now) (a .domain) (boundIn (a .text .now) (a .scope)) (a .most) (a .at) (memory (a .names .now) (a .work .now)) (a .to) (l .i) (l .more) (l .count) (l .all) (memory (l .names) (l .work)) (l .inv .0) (next .given .0 .0) (next .given .0 .1 .0) _
-    (term-done (a .text .now) (a .domain) (boundIn (a .text .now) (a .scope)) readTerm (l .i) (memory (l .names) (l .work)) (a .to + l .count) _ (read-term .result) (read-term .ensures) _ _ (next .given .1))
-    (λ e. c .if2 .taken (c .before .peek .ensures ∙ e)))
+    let judged = c .before .before .before in
+    let read = judged .before .before in
+    rw (judged .both .ensures) (terms-last _ _ _ _ _ _ _ _ _ _ _ _ (read .before .before .before .before .before .before .before .loop .inv .0) _ _ _ (term-found read) (λ e. c .if2 .taken (c .before .peek .ensures ∙ e)))
 
 add-i : tie.Need-add-i Inv-loop μ-loop
-add-i c =
-    let next = c .before .before .before .before .before .next in
-    let read-term = c .before .before .before .before .before .before .before .before .before .read-term in
-    let loop = c .before .before .before .before .before .before .before .before .before .before .before .before .loop in
-    let a = c .before .before .before .before .before .before .before .before .before .before .before .before .before .before .before .args in
-    let l = loop in
-    let f = term-done (a .text .now) (a .domain) (boundIn (a .text .now) (a .scope)) readTerm (l .i) (memory (l .names) (l .work)) (a .to + l .count) _ (read-term .result) (read-term .ensures) _ _ (next .given .1) in
-    omega (arith, f .within)
+add-i c = omega (arith, term-found (c .before .before .before .before .before))
 
 loop-again : tie.Need-loop-again Inv-loop μ-loop
 loop-again c =
-    let both = c .before .before .before .both in
-    let next = c .before .before .before .before .before .next in
-    let read-term = c .before .before .before .before .before .before .before .before .before .read-term in
-    let loop = c .before .before .before .before .before .before .before .before .before .before .before .before .loop in
-    let a = c .before .before .before .before .before .before .before .before .before .before .before .before .before .before .before .args in
-    let l = loop in (
-      rw (both .ensures)
-          (terms-on (a .text .now) (a .domain) (boundIn (a .text .now) (a .scope)) (a .most) (a .at) (memory (a .names .now) (a .work .now)) (a .to) (l .i) (l .more) (l .count) (l .all) (memory (l .names) (l .work)) (l .inv .0) (next .given .0 .0) (next .given .0 .1 .0) _
-          (term-done (a .text .now) (a .domain) (boundIn (a .text .now) (a .scope)) readTerm (l .i) (memory (l .names) (l .work)) (a .to + l .count) _ (read-term .result) (read-term .ensures) _ _ (next .given .1))
-          (c .before .before .if1 .left) (sym (c .before .peek .ensures) ∙ c .if2 .left)),
+    let judged = c .before .before .before in
+    let read = judged .before .before in (
+      rw (judged .both .ensures)
+          (terms-on _ _ _ _ _ _ _ _ _ _ _ _ (read .before .before .before .before .before .before .before .loop .inv .0) _ _ _ (term-found read) (c .before .before .if1 .left) (sym (c .before .peek .ensures) ∙ c .if2 .left)),
       search needs,
     )
 
 returns-3 : tie.Need-returns-3 Inv-loop μ-loop
 returns-3 c =
-    let read-term = c .before .before .before .before .read-term in
-    let loop = c .before .before .before .before .before .before .before .loop in
-    let a = c .before .before .before .before .before .before .before .before .before .before .args in
-    let l = loop in
-    terms-refused (a .text .now) (a .domain) (boundIn (a .text .now) (a .scope)) (a .most) (a .at) (memory (a .names .now) (a .work .now)) (a .to) (l .i) (l .more) (l .count) (l .all) (memory (l .names) (l .work)) (l .inv .0)
-    (term-malformed (a .text .now) (a .domain) (boundIn (a .text .now) (a .scope)) readTerm (l .i) (memory (l .names) (l .work)) (a .to + l .count) _ (read-term .result) (read-term .ensures) (c .enum-told .given .1))
+    let read = c .before .before .before .before in
+    terms-refused _ _ _ _ _ _ _ _ _ _ _ _ (read .before .before .before .loop .inv .0) (term-malformed _ _ _ _ _ _ _ _ _ (read .read-term .ensures) (c .enum-told .given .1))
 
 pub read-terms-spec : {M : Type 1} → statement M
 read-terms-spec =
