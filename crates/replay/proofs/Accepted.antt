@@ -25,10 +25,15 @@ use Rattle.logic.proofs.WellFormed.{wellFormed-parts}
 use Rattle.logic.proofs.Kept.{makesAt-kept}
 use Rattle.logic.proofs.Soundness.{makesAt-same}
 use Rattle.logic.proofs.Normal.{clause-noInput}
-use Rattle.replay.specs.Theory.{theoryOf, formulasOf, namesOf, State, live, ended, liveTheory, initial}
-use Rattle.replay.specs.Replay.{Replayed, derivationOf, areClauses, isGround, theoryText, Ground, groundText, groundOf, footerLine}
-use Rattle.replay.specs.Answer.{differenceLine, grounded, replayed, checked}
+use Rattle.replay.specs.TheoryText.{theoryOf}
+use Rattle.replay.specs.Theory.{formulasOf, namesOf, State, live, ended, liveTheory, initial}
+use Rattle.replay.specs.Replay.{Replayed, derivationOf}
+use Rattle.replay.specs.Ground.{areClauses, isGround, Ground, groundText, groundOf, footerLine}
+use Rattle.replay.specs.TheoryText.{theoryText}
+use Rattle.replay.specs.Answer.{differenceLine, grounded, replayed, checked, replayResult, checkResult}
 use Rattle.replay.specs.Accepted.{Grounds, finalFormulas, finalText}
+use Rattle.replay.specs.memory.Conclusions.{agreed, concludedOf, answeredOf}
+use Rattle.replay.proofs.Refusals.{replayed-accepts, checked-accepts}
 use Rattle.replay.proofs.Soundness.{Live, steps-sound}
 use Rattle.replay.proofs.Derivation.{Derived, derivation-exactly}
 use Rattle.replay.proofs.TheoryText.{ValidTheory, theoryOf-reads}
@@ -162,6 +167,7 @@ grounded-judges problem theory derivation =
     (theoryOf P theory) (allowed-itself (theoryOf P theory)))
     (problemOf problem) (allowed-itself (problemOf problem))
 
+-- what follows the tests, each of which may refuse
 abbrev tested : {A : Type 0} → List (Bool × Refusal) → Judged A → Judged A
 tested [] o = o
 tested (t ∷ ts) o = provided (t .0) (t .1) >> tested ts o
@@ -170,38 +176,43 @@ abbrev fits : Bytes → Bool × Refusal
 fits text = (leb (length text) textSize, refusal 2 0 0)
 
 module _ {A : Type 0} (Q : A → Type 0) where
-  -- what follows a test
   allowed-after : (b : Bool) (r : Refusal) (o : Judged A) → (b ≡ true → Allowed Q o) → Allowed Q (provided b r >> o)
   allowed-after true r o h = h refl
   allowed-after false r o h = tt
 
-  -- what follows the tests of sizes
-  allowed-short : (o : Judged A) → Allowed Q o → (tests : List (Bool × Refusal)) → Allowed Q (tested tests o)
-  allowed-short o h [] = h
-  allowed-short o h (t ∷ ts) = allowed-after (t .0) (t .1) (tested ts o) (λ e. allowed-short o h ts)
+  allowed-tested : (o : Judged A) → Allowed Q o → (tests : List (Bool × Refusal)) → Allowed Q (tested tests o)
+  allowed-tested o h [] = h
+  allowed-tested o h (t ∷ ts) = allowed-after (t .0) (t .1) (tested ts o) (λ e. allowed-tested o h ts)
 
-module _ (problem theory derivation : Bytes) (output work : List ℕ) where
-  -- the ground text has room
-  abbrev pub Placed : Ground → Type 0
-  Placed G = Judges problem theory derivation G × (length (groundText G) ≤ length output)
+module _ (problem theory derivation : Bytes) (output : List ℕ) where
+  -- what a job accepts: the ground text has room, and is the claim where there is one to compare with
+  pub record Answered (compare : Bool) (claim : Bytes) (G : Ground) : Type 0 where
+    pub judges : Judges problem theory derivation G
+    pub room : length (groundText G) ≤ length output
+    pub agrees : agreed compare claim (groundText G) ≡ true
 
-  pub replayed-judges : Allowed Placed (replayed problem theory derivation output work)
-  unfolding replayed
-  replayed-judges =
-      allowed-short Placed _
-      (allowed-bind (Judges problem theory derivation) Placed _
-      (λ G j. allowed-after Placed (leb (length (groundText G)) (length output)) (refusal 18 0 0) (done G) (λ r. (j, leb-true _ _ r)))
-      (grounded problem theory derivation) (grounded-judges problem theory derivation))
-      ((leb workSize (length work), refusal 1 0 0) ∷ (fits problem ∷ fits theory ∷ fits derivation ∷ []))
-
-  pub checked-judges : (claim : Bytes) → Allowed (λ G. Placed G × (claim ≡ groundText G)) (checked problem theory derivation claim output work)
-  unfolding checked
-  checked-judges claim =
-      let W : Ground → Type 0 = λ G. Placed G × (claim ≡ groundText G) in
-      allowed-short W _
-      (allowed-bind (Judges problem theory derivation) W _
+  pub answered-judges : (compare : Bool) (claim : Bytes) (work : List ℕ) → Allowed (Answered compare claim) (answeredOf compare problem theory derivation claim output work)
+  answered-judges compare claim work =
+      let W = Answered compare claim in
+      allowed-tested W _
+      (allowed-bind (Judges problem theory derivation) W (concludedOf compare claim output)
       (λ G j. allowed-after W (leb (length (groundText G)) (length output)) (refusal 18 0 0) _
-      (λ r. allowed-after W (same claim (groundText G)) (refusal 19 4 (differenceLine claim (groundText G))) (done G)
-      (λ e. ((j, leb-true _ _ r), same-true claim (groundText G) e))))
+      (λ r. allowed-after W (agreed compare claim (groundText G)) (refusal 19 4 (differenceLine claim (groundText G))) (done G)
+      (λ a. record { judges = j; room = leb-true _ _ r; agrees = a })))
       (grounded problem theory derivation) (grounded-judges problem theory derivation))
       ((leb workSize (length work), refusal 1 0 0) ∷ (fits problem ∷ fits theory ∷ fits derivation ∷ fits claim ∷ []))
+
+module _ (problem theory derivation : Bytes) (output work : List ℕ) where
+  pub check-answered : (claim : Bytes) → checkResult problem theory derivation claim output work .answer .number ≡ 0
+      → (G : Ground) × (checked problem theory derivation claim output work ≡ done G) × Answered problem theory derivation output true claim G
+  unfolding checked
+  check-answered claim e =
+      let (G, is) = checked-accepts problem theory derivation claim output work .0 e in
+      (G, is, allowed-done _ (checked problem theory derivation claim output work) G (answered-judges problem theory derivation output true claim work) is)
+
+  pub replay-answered : replayResult problem theory derivation output work .answer .number ≡ 0
+      → (G : Ground) × (replayed problem theory derivation output work ≡ done G) × Answered problem theory derivation output false [] G
+  unfolding replayed textSize
+  replay-answered e =
+      let (G, is) = replayed-accepts problem theory derivation output work .0 e in
+      (G, is, allowed-done _ (replayed problem theory derivation output work) G (answered-judges problem theory derivation output false [] work) is)

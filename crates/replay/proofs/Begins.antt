@@ -26,7 +26,8 @@ use Rattle.formula.proofs.memory.Entries.{each-left, each-right}
 use Rattle.formula.proofs.memory.Naming.{Naming, Storable}
 use Rattle.formula.proofs.memory.Listing.{tableNames-in, problemNaming, storable-known}
 use Rattle.formula.proofs.memory.TheoryLines.{fits-length, fits-members}
-use Rattle.replay.specs.Theory.{theoryOf, initial}
+use Rattle.replay.specs.TheoryText.{theoryOf}
+use Rattle.replay.specs.Theory.{initial}
 use Rattle.replay.specs.memory.Held.{held}
 use Rattle.replay.specs.memory.TheoryReads.{TheoryFound}
 use Rattle.replay.proofs.Ground.{formulas-numbered, passed-well}

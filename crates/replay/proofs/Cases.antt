@@ -21,7 +21,7 @@ use Rattle.logic.specs.Normal.{isClause}
 use Rattle.logic.specs.Meaning.{holds}
 use Rattle.logic.specs.Rules.{instances, apply, at}
 use Rattle.replay.specs.Theory.{entry, live}
-use Rattle.replay.specs.Replay.{groundText, groundOf}
+use Rattle.replay.specs.Ground.{groundText, groundOf}
 
 -- the problem of the night on three links
 abbrev pub night : Bytes

@@ -19,7 +19,7 @@ use Rattle.formula.specs.declared.cursor.Cursor.{Cursor}
 use Rattle.formula.specs.memory.Cursor.{firstCursor, Prints}
 use Rattle.formula.specs.memory.ClauseText.{clauseLines}
 use Rattle.formula.proofs.memory.Cursor.{print-as}
-use Rattle.replay.specs.Replay.{Ground, groundText}
+use Rattle.replay.specs.Ground.{Ground, groundText}
 use Rattle.replay.specs.Answer.{differenceLine, grounded, replayed, checked, answerOf, workAfter, resultOf, replayResult, checkResult}
 use Rattle.replay.specs.Promise.{Promise}
 use Rattle.replay.specs.memory.Grounds.{GroundTold}
@@ -52,17 +52,25 @@ module _ (compare : Bool) (claim : Bytes) (output : List ℕ) (G : Ground) where
     concluded-all : agreed compare claim (groundText G) ≡ true → concludedOf compare claim output G ≡ done G
     concluded-all e = rw (le-leb (length (groundText G)) (length output) room, e)
 
+-- what the cursor tells of a run without storing
+module _ {claim text : Bytes} {output new : List ℕ} {cursor : Cursor} (so : Prints claim false (firstCursor, output) text (cursor, new))
+    (G : Ground) (t : groundText G ≡ text) (short : length (groundText G) ≤ textSize) where
+  kept : new ≡ output
+  kept = counted-kept short (print-as t so)
+
+  long : (cursor .length ≡ length (groundText G)) × (length new ≡ length output)
+  long = (counted-length short (print-as t so), ap length kept)
+
+  told-agreed : (compare : Bool) → cond compare (cursor .same && eqb (cursor .length) (length claim)) true ≡ agreed compare claim (groundText G)
+  told-agreed compare = ap (λ (b : Bool). cond compare b true) (counted-same short (print-as t so))
+
 -- from the cursor of a run without storing
 module _ {compare : Bool} {claim text : Bytes} {rules formulas : ℕ} {output new : List ℕ} {cursor : Cursor} {r : Answer}
     (so : Prints claim false (firstCursor, output) text (cursor, new)) where
   pub conclude-long : length new < cursor .length → r ≡ record { number = 18; file = 0; line = 0; rules = 0; formulas = 0 }
       → Concluded compare claim text rules formulas output r new
   conclude-long h e = record {
-    told = λ G t u v short.
-        let q = print-as t so in
-        let kept = counted-kept short q in
-        let l = ap length kept in
-        told-refusal _ (concluded-long compare claim output G (omega (arith, counted-length short q, h, l))) e kept;
+    told = λ G t u v short. told-refusal _ (concluded-long compare claim output G (omega (arith, long so G t short, h))) e (kept so G t short);
   }
 
   module _ {agrees : Bool} (a : agrees ≡ cond compare (cursor .same && eqb (cursor .length) (length claim)) true) (room : cursor .length ≤ length new) where
@@ -70,12 +78,8 @@ module _ {compare : Bool} {claim text : Bytes} {rules formulas : ℕ} {output ne
         → Concluded compare claim text rules formulas output r new
     conclude-other o e = record {
       told = λ G t u v short.
-          let q = print-as t so in
-          let kept = counted-kept short q in
-          let l = ap length kept in
-          let other = sym (a ∙ ap (λ (b : Bool). cond compare b true) (counted-same short q)) ∙ o in
-          told-refusal _ (concluded-other compare claim output G (omega (arith, counted-length short q, room, l)) other)
-          (e ∙ ap (λ (n : ℕ). shown (answerOf (refused (refusal 19 4 n)))) (counted-line short q)) kept;
+          told-refusal _ (concluded-other compare claim output G (omega (arith, long so G t short, room)) (sym (a ∙ told-agreed so G t short compare) ∙ o))
+          (e ∙ ap (λ (n : ℕ). shown (answerOf (refused (refusal 19 4 n)))) (counted-line short (print-as t so))) (kept so G t short);
     }
 
     -- and of another with storing
@@ -84,14 +88,10 @@ module _ {compare : Bool} {claim text : Bytes} {rules formulas : ℕ} {output ne
         → Concluded compare claim text rules formulas output r last
     conclude-all {last} {end} o stored e = record {
       told = λ G t u v short.
-          let q = print-as t so in
-          let kept = counted-kept short q in
-          let l = ap length kept in
-          let fits : length (groundText G) ≤ length output = omega (arith, counted-length short q, room, l) in
-          let all = sym (a ∙ ap (λ (b : Bool). cond compare b true) (counted-same short q)) ∙ o in
-          told-same (concluded-all compare claim output G fits all) (record {
+          let fits : length (groundText G) ≤ length output = omega (arith, long so G t short, room) in
+          told-same (concluded-all compare claim output G fits (sym (a ∙ told-agreed so G t short compare) ∙ o)) (record {
             is = rw (u, v) e;
-            written = stored-text short (print-as t (subst (λ (w : List ℕ). Prints claim true (firstCursor, w) text (end, last)) kept stored)) fits;
+            written = stored-text short (print-as t (rw (kept so G t short) at stored)) fits;
           });
     }
 

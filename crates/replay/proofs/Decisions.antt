@@ -2,26 +2,25 @@
 -- Assumes nothing.
 use Prim.Native.Nat.{ℕ, zero, suc, _≤_, _<_}
 use native.Mathlib.Omega.{arith}
-use mathlib.Core.Path.{_≡_, refl, sym, ap, _∙_, subst}
+use mathlib.Core.Path.{_≡_, refl, sym, ap, _∙_}
 use mathlib.Core.List.{List, []}
-use mathlib.Core.Bool.{Bool, true, false}
-use borrow.Author.Tests.{ltb-true, ltb-false, le-leb, lt-leb}
-use lib.Dec.{ltb}
-use lib.ListN.{length, take, drop, drop-of-length-le}
+use mathlib.Core.Bool.{Bool, true, false, false≢true}
+use borrow.Author.Tests.{le-leb, lt-leb}
+use lib.ListN.{length, getD, take, drop, drop-of-length-le, List·getD-eq-default}
 use Rattle.text.specs.Outcome.{Outcome, done, refused}
-use Rattle.text.specs.Derivation.{Position}
 use Rattle.text.specs.declared.table.Table.{Table}
 use Rattle.text.specs.declared.rule_line.Rule.{Rule}
 use Rattle.text.specs.declared.rule_line.Rule.the-variants.{Snand, Snor, Stn, Epred, Eprop, Iq}
 use Rattle.formula.specs.memory.Kinds.{kindOf}
 use Rattle.formula.specs.memory.Deciding.{junctionFit, negationFit, quantifierFit, evaluationFit, ruleFit}
 use Rattle.formula.specs.declared.word.Kind.{Kind}
+use Rattle.formula.specs.declared.word.Kind.the-variants as kind
 use Rattle.formula.proofs.memory.Words.{kind-truth}
 use Rattle.formula.specs.memory.Rewriting.{endWithin, rewrittenWords}
 use Rattle.formula.specs.memory.Admitted.{admittedFlags}
 use Rattle.formula.specs.declared.decide.Fit.{Fit}
 use Rattle.formula.specs.declared.decide.Fit.the-variants as fit
-use Rattle.replay.specs.memory.Held.{Held, held, exchanged, misfit, unlessRefused, targetIn, sizedIn, madeIn, rewrittenIn}
+use Rattle.replay.specs.memory.Held.{Held, held, exchanged, misfit, unlessRefused, sizedIn, madeIn}
 use Rattle.replay.specs.memory.Steps.{Flagged}
 
 -- Where no word stands, no rule fits.
@@ -34,32 +33,16 @@ fit-nothing table rows Epred = ap (λ (k : Kind). evaluationFit table rows true 
 fit-nothing table rows Eprop = ap (λ (k : Kind). evaluationFit table rows false k []) (kind-truth false)
 fit-nothing table rows Iq = ap quantifierFit (kind-truth false)
 
-module _ (table : Table) (rows : List ℕ) (rule : Rule) (words : List ℕ) (at : ℕ) where
-  fit-beyond : length words ≤ at → ruleFit table rows rule (drop at words) ≡ fit.Misfit
-  fit-beyond h = ap (ruleFit table rows rule) (drop-of-length-le words h) ∙ fit-nothing table rows rule
+pub fit-here : (table : Table) (rows : List ℕ) (rule : Rule) (words : List ℕ) (at : ℕ) → (ruleFit table rows rule (drop at words) ≡ fit.Misfit → ⊥) → at < length words
+fit-here table rows rule words at fits =
+    let inside : length words ≤ at → ⊥ = λ h. fits (ap (ruleFit table rows rule) (drop-of-length-le words h) ∙ fit-nothing table rows rule) in
+    omega arith
 
-  beyond-or : {A : Type 0} → (length words ≤ at → A) → (at < length words → A) → A
-  beyond-or {A} k l = pick (ltb at (length words)) refl
-    where
-      pick : (b : Bool) → ltb at (length words) ≡ b → A
-      pick true e = l (ltb-true at (length words) e)
-      pick false e = k (ltb-false at (length words) e)
-
-  pub quantifier-here : (decided : Fit) → decided ≡ ruleFit table rows rule (drop at words) → decided ≡ fit.Quantifier → at < length words
-  quantifier-here decided is e = beyond-or (λ h. other (sym e ∙ is ∙ fit-beyond h)) (λ h. h)
-    where
-      other : fit.Quantifier ≡ fit.Misfit → at < length words
-      other e = let z : _≡_ {A = ℕ} 0 1 = ap code e in absurd (omega arith)
-        where
-          code : Fit → ℕ
-          code (fit.Value b) = 2
-          code (fit.Junction b) = 2
-          code fit.Quantifier = 0
-          code fit.Misfit = 1
-
-  pub fit-here : (decided : Fit) → decided ≡ ruleFit table rows rule (drop at words) → misfit decided (drop at words) ≡ 0 → at < length words
-  fit-here decided is e =
-      beyond-or (λ h. let z : _≡_ {A = ℕ} 13 0 = sym (ap (λ (d : Fit). misfit d (drop at words)) (is ∙ fit-beyond h)) ∙ e in absurd (omega arith)) (λ h. h)
+-- and none that passes a test which 0, the word of `false`, fails
+pub word-here : (test : Kind → Bool) → test (kind.Truth false) ≡ false → (words : List ℕ) (at : ℕ) → test (kindOf (getD words at 0)) ≡ true → at < length words
+word-here test low words at e =
+    let inside : length words ≤ at → ⊥ = λ h. false≢true (sym low ∙ ap test (sym (kind-truth false)) ∙ ap (λ (k : ℕ). test (kindOf k)) (sym (List·getD-eq-default words 0 h)) ∙ e) in
+    omega arith
 
 -- A decision.
 module _ (table : Table) (rows : List ℕ) (rule : Rule) (m : Held) (at : ℕ) where
@@ -101,26 +84,3 @@ module _ (m : Held) (at : ℕ) (decided : Fit) (flags : List Bool) where
   pub sized-within : length madeWords ≤ 4096 → sizedIn m at decided flags ≡ done (held madeWords (m .names) (m .top) false)
   unfolding sizedIn
   sized-within h = rw (le-leb (length madeWords) 4096 h)
-
--- A rule at a path.
-module _ (table : Table) (rows : List ℕ) (m : Held) (rule : Rule) (p : Position) where
-  pub rewritten-refused : (number : ℕ) → targetIn m p ≡ refused number → rewrittenIn table rows m rule p ≡ refused number
-  unfolding rewrittenIn
-  rewritten-refused number e = rw e
-
-  module _ (t : ℕ × ℕ) (found : targetIn m p ≡ done t) where
-    pub rewritten-ended : m .ended ≡ true → rewrittenIn table rows m rule p ≡ refused 13
-    unfolding rewrittenIn
-    rewritten-ended e = rw (found, e)
-
-    pub rewritten-made : m .ended ≡ false → rewrittenIn table rows m rule p ≡ madeIn table rows rule m (t .1)
-    unfolding rewrittenIn
-    rewritten-made e = rw (found, e)
-
--- flags on the same rows
-pub flagged-rows : (table : Table) (rows others : List ℕ) → rows ≡ others → (s : List ℕ) (decided : Fit) (flags : List Bool) → Flagged table rows s decided flags → Flagged table others s decided flags
-flagged-rows table rows others e s decided flags f = subst (λ (r : List ℕ). Flagged table r s decided flags) e f
-
--- by the decision
-pub flagged-as : (table : Table) (rows s : List ℕ) (decided other : Fit) (flags : List Bool) → decided ≡ other → Flagged table rows s other flags → Flagged table rows s decided flags
-flagged-as table rows s decided other flags e f = subst (λ (d : Fit). Flagged table rows s d flags) (sym e) f

@@ -5,27 +5,28 @@ use Prim.Native.Nat.{ℕ, _≤_}
 use mathlib.Core.Path.{_≡_, refl, sym, ap, _∙_, subst}
 use mathlib.Core.Logic.{_↔_}
 use mathlib.Core.List.{List, [], _∷_, _++_}
-use mathlib.Core.Bool.{true, false, not}
+use mathlib.Core.Bool.{Bool, true, false, not}
 use lib.ListN.{length, drop}
 use borrow.Author.Tests.{le-leb}
 use Rattle.text.specs.Sizes.{textSize, theorySize, formulaCount}
-use Rattle.text.specs.Bytes.{Bytes, bytes, same, every}
+use Rattle.text.specs.Bytes.{Bytes, bytes, every}
 use Rattle.text.specs.Outcome.{done}
 use Rattle.text.specs.Problem.{Problem, problemOf, isInput}
-use Rattle.text.proofs.Laws.{same-refl}
+use Rattle.text.proofs.Laws.{same-refl, same-true}
 use Rattle.text.proofs.Outcome.{allowed-done}
 use Rattle.logic.specs.Formula.{Formula, truth, size}
 use Rattle.logic.specs.Normal.{mentionsOnly}
 use Rattle.logic.specs.Text.{textOf}
 use Rattle.logic.specs.Meaning.{Structure, Extends, holds, satisfies}
-use Rattle.replay.specs.Theory.{theoryOf, ended, liveTheory}
-use Rattle.replay.specs.Replay.{Ground, groundText}
+use Rattle.replay.specs.TheoryText.{theoryOf}
+use Rattle.replay.specs.Theory.{ended, liveTheory}
+use Rattle.replay.specs.Ground.{Ground, groundText}
 use Rattle.replay.specs.Answer.{grounded, replayed, checked, Result, replayResult, checkResult}
 use Rattle.replay.specs.Accepted.{Grounds, finalFormulas, finalText, accepts, Fits, Equivalent}
+use Rattle.replay.specs.memory.Conclusions.{agreed, answeredOf}
 use Rattle.replay.proofs.Theory.{length-names, length-formulas}
-use Rattle.replay.proofs.Refusals.{replayed-accepts, checked-accepts}
 use Rattle.replay.proofs.Ground.{falsity-well, falsity-plain, read-ground}
-use Rattle.replay.proofs.Accepted.{groundBy, GroundedBy, derivation-grounds, Judges, grounded-judges, replayed-judges, checked-judges, final-short, final-read, final-same, final-unsat, final-plain}
+use Rattle.replay.proofs.Accepted.{groundBy, GroundedBy, derivation-grounds, Judges, grounded-judges, Answered, check-answered, replay-answered, final-short, final-read, final-same, final-unsat, final-plain}
 
 -- Under the limits a ground text has at most 65,536 bytes.
 pub ground-short : (problem theory derivation : Bytes) (G : Ground) → grounded problem theory derivation ≡ done G → length (groundText G) ≤ textSize
@@ -56,13 +57,37 @@ judges-grounds problem theory derivation P T readProblem readTheory G j =
 listed-count : {P : Problem} {T : List Formula} {derivation : Bytes} (g : Grounds P T derivation) → length (finalFormulas g) ≡ length (g .written .final)
 listed-count g = rw (g .listed) (length-formulas (liveTheory (g .last)) ∙ sym (length-names (liveTheory (g .last))))
 
+-- Either job, with a claim to compare or without: it accepts exactly what a derivation grounds.
+module _ (compare : Bool) (problem theory derivation claim : Bytes) (output : List ℕ)
+    (P : Problem) (T : List Formula) (readProblem : problemOf problem ≡ done P) (readTheory : theoryOf P theory ≡ done T) where
+  answered-grounds : (G : Ground) → Answered problem theory derivation output compare claim G
+      → (g : Grounds P T derivation) × (agreed compare claim (finalText g) ≡ true) × (length (finalText g) ≤ length output)
+  answered-grounds G a =
+      let (g, is) = judges-grounds problem theory derivation P T readProblem readTheory G (a .judges) in
+      (g, rw is at (a .agrees), rw is at (a .room))
+
+  grounds-answered : (work : List ℕ) → Fits problem theory derivation claim work → (g : Grounds P T derivation) → agreed compare claim (finalText g) ≡ true
+      → length (finalText g) ≤ length output → answeredOf compare problem theory derivation claim output work ≡ done (groundBy g)
+  grounds-answered work fits g agrees long =
+      rw (
+        le-leb _ _ (fits .longWork),
+        le-leb _ _ (fits .shortProblem),
+        le-leb _ _ (fits .shortTheory),
+        le-leb _ _ (fits .shortDerivation),
+        le-leb _ _ (fits .shortClaim),
+        readProblem,
+        readTheory,
+        derivation-grounds P T derivation g,
+        le-leb _ _ long,
+        agrees,
+      )
+
 module _ (problem theory derivation claim : Bytes) (output work : List ℕ) where
   -- Demand 3.
   pub demand-three : checkResult problem theory derivation claim output work .answer .number ≡ 0 → Equivalent problem theory claim
   demand-three e =
-      let a = checked-accepts problem theory derivation claim output work .0 e in
-      let j = allowed-done _ (checked problem theory derivation claim output work) (a .0) (checked-judges problem theory derivation output work claim) (a .1) in
-      rw (j .1) (judges-equivalent problem theory derivation (a .0) (j .0 .0))
+      let (G, is, a) = check-answered problem theory derivation output work claim e in
+      rw (same-true claim (groundText G) (a .agrees)) (judges-equivalent problem theory derivation G (a .judges))
 
   -- With a valid problem and theory.
   module _ (P : Problem) (T : List Formula) (readProblem : problemOf problem ≡ done P) (readTheory : theoryOf P theory ≡ done T) where
@@ -77,16 +102,12 @@ module _ (problem theory derivation claim : Bytes) (output work : List ℕ) wher
 
     -- Texts within their sizes and working memory long enough; the output is long enough where it is as long as the final formulas' text.
     module _ (fits : Fits problem theory derivation claim work) where
-      grounds-checked : (g : Grounds P T derivation) → claim ≡ finalText g → length (finalText g) ≤ length output
-          → checked problem theory derivation claim output work ≡ done (groundBy g)
-      unfolding checked
-      grounds-checked g e long =
-          rw (le-leb _ _ (fits .longWork), le-leb _ _ (fits .shortProblem), le-leb _ _ (fits .shortTheory), le-leb _ _ (fits .shortDerivation), le-leb _ _ (fits .shortClaim), readProblem, readTheory, derivation-grounds P T derivation g, le-leb _ _ long, e, same-refl (finalText g))
-
       -- Demand 2, with what is answered and left.
       pub demand-two-result : (g : Grounds P T derivation) → claim ≡ finalText g → length (finalText g) ≤ length output
           → checkResult problem theory derivation claim output work ≡ accepts g output work
-      demand-two-result g e long = rw (grounds-checked g e long, ← listed-count g)
+      unfolding checked
+      demand-two-result g e long =
+          rw (grounds-answered true problem theory derivation claim output P T readProblem readTheory work fits g (rw e (same-refl (finalText g))) long, ← listed-count g)
 
       -- Demand 2.
       pub demand-two : (checkResult problem theory derivation claim output work .answer .number ≡ 0)
@@ -96,35 +117,31 @@ module _ (problem theory derivation claim : Bytes) (output work : List ℕ) wher
           there : checkResult problem theory derivation claim output work .answer .number ≡ 0
               → (g : Grounds P T derivation) × (claim ≡ finalText g) × (length (finalText g) ≤ length output)
           there e =
-              let a = checked-accepts problem theory derivation claim output work .0 e in
-              let j = allowed-done _ (checked problem theory derivation claim output work) (a .0) (checked-judges problem theory derivation output work claim) (a .1) in
-              let g = judges-grounds problem theory derivation P T readProblem readTheory (a .0) (j .0 .0) in
-              (g .0, j .1 ∙ ap groundText (g .1), subst (λ (G : Ground). length (groundText G) ≤ length output) (g .1) (j .0 .1))
+              let (G, is, a) = check-answered problem theory derivation output work claim e in
+              let (g, agrees, long) = answered-grounds true problem theory derivation claim output P T readProblem readTheory G a in
+              (g, same-true claim (finalText g) agrees, long)
 
 -- The job replay: the same without a claim.
 module _ (problem theory derivation : Bytes) (output work : List ℕ) where
   pub replay-three : replayResult problem theory derivation output work .answer .number ≡ 0
       → (G : Ground) × Equivalent problem theory (groundText G) × (replayResult problem theory derivation output work .output ≡ groundText G ++ drop (length (groundText G)) output)
   replay-three e =
-      let a = replayed-accepts problem theory derivation output work .0 e in
-      let j = allowed-done _ (replayed problem theory derivation output work) (a .0) (replayed-judges problem theory derivation output work) (a .1) in
-      (a .0, judges-equivalent problem theory derivation (a .0) (j .0), rw (a .1))
+      let (G, is, a) = replay-answered problem theory derivation output work e in
+      (G, judges-equivalent problem theory derivation G (a .judges), rw is)
 
   module _ (P : Problem) (T : List Formula) (readProblem : problemOf problem ≡ done P) (readTheory : theoryOf P theory ≡ done T) (fits : Fits problem theory derivation [] work) where
     pub replay-two-result : (g : Grounds P T derivation) → length (finalText g) ≤ length output → replayResult problem theory derivation output work ≡ accepts g output work
-    unfolding replayed
-    replay-two-result g long =
-        rw (le-leb _ _ (fits .longWork), le-leb _ _ (fits .shortProblem), le-leb _ _ (fits .shortTheory), le-leb _ _ (fits .shortDerivation), readProblem, readTheory, derivation-grounds P T derivation g, le-leb _ _ long, ← listed-count g)
+    unfolding replayed textSize
+    replay-two-result g long = rw (grounds-answered false problem theory derivation [] output P T readProblem readTheory work fits g refl long, ← listed-count g)
 
     pub replay-two : (replayResult problem theory derivation output work .answer .number ≡ 0) ↔ ((g : Grounds P T derivation) × (length (finalText g) ≤ length output))
     replay-two = (there, λ (g, long). ap (λ (r : Result). r .answer .number) (replay-two-result g long))
       where
         there : replayResult problem theory derivation output work .answer .number ≡ 0 → (g : Grounds P T derivation) × (length (finalText g) ≤ length output)
         there e =
-            let a = replayed-accepts problem theory derivation output work .0 e in
-            let j = allowed-done _ (replayed problem theory derivation output work) (a .0) (replayed-judges problem theory derivation output work) (a .1) in
-            let g = judges-grounds problem theory derivation P T readProblem readTheory (a .0) (j .0) in
-            (g .0, subst (λ (G : Ground). length (groundText G) ≤ length output) (g .1) (j .1))
+            let (G, is, a) = replay-answered problem theory derivation output work e in
+            let (g, agrees, long) = answered-grounds false problem theory derivation [] output P T readProblem readTheory G a in
+            (g, long)
 
 read-false : (P : Problem) → theoryOf P (bytes "false\n") ≡ done (truth false ∷ [])
 unfolding textOf size theorySize formulaCount

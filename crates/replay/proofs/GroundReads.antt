@@ -2,16 +2,16 @@
 -- Assumes nothing.
 use Prim.Native.Nat.{ℕ, zero, suc, _+_, _-_, _≤_}
 use native.Mathlib.Omega.{arith}
-use mathlib.Core.Path.{_≡_, refl, sym, ap, ap₂, subst, _∙_}
+use mathlib.Core.Path.{_≡_, refl, sym, ap, ap₂, _∙_}
 use mathlib.Core.List.{List, _++_}
 use mathlib.Core.Bool.{false}
 use borrow.Rule.Slice.PartMut.{putMid}
 use lib.ListN.{length, take, drop, length-drop}
-use lib.Seq.{slice, take-at, drop-at, length-take-le, length-front}
+use lib.Seq.{slice, take-at, drop-at, length-take-le}
 use Rattle.text.specs.Bytes.{Bytes}
 use Rattle.text.specs.Outcome.{done, refused, _>>=_}
 use Rattle.text.specs.Lines.{Judged, Refusal, refusal}
-use Rattle.text.specs.Problem.{Name, Problem, problemOf}
+use Rattle.text.specs.Problem.{Problem, problemOf}
 use Rattle.text.specs.memory.Table.{problemIn}
 use Rattle.text.specs.declared.table.Table.{Table}
 use Rattle.text.proofs.Outcome.{allowed-done}
@@ -25,21 +25,22 @@ use Rattle.text.proofs.Tables.{domain-in}
 use Rattle.logic.specs.Formula.{Formula}
 use Rattle.logic.specs.Meaning.{countFrom}
 use Rattle.formula.specs.memory.Entries.{predicateIndex}
-use Rattle.formula.proofs.memory.Standing.{drop-take}
-use Rattle.replay.specs.Theory.{formulasOf, namesOf, liveTheory, initial, theoryOf}
-use Rattle.replay.specs.Replay.{Replayed, derivationFrom, Ground}
+use Rattle.formula.proofs.memory.Admitted.{length-countFrom}
+use Rattle.replay.specs.Theory.{formulasOf, namesOf, liveTheory, initial}
+use Rattle.replay.specs.TheoryText.{theoryOf}
+use Rattle.replay.specs.Replay.{Replayed, derivationFrom}
+use Rattle.replay.specs.Ground.{Ground}
 use Rattle.replay.specs.Answer.{grounded}
 use Rattle.replay.specs.memory.Held.{Held, held, steppedIn, endIn}
 use Rattle.replay.specs.memory.Steps.{liveNames, rowsIn, heldIn, Arranged, Few}
 use Rattle.replay.specs.memory.Lines.{JudgedIn}
-use Rattle.replay.specs.memory.TheoryReads.{TheoryFound, ToldTheory}
-use Rattle.replay.specs.declared.theory_reader.TheoryRead.{TheoryRead}
+use Rattle.replay.specs.memory.TheoryReads.{TheoryFound}
 use Rattle.replay.specs.memory.Grounds.{GroundFound, GroundTold, GroundEither, found, stopped, judgedEnd, endedIn, EndEither, ends, stops, Refuses as Refused, Named}
 use Rattle.replay.specs.declared.live.Live.{Live}
 use Rattle.replay.specs.declared.live.Layout.{Layout}
 use Rattle.replay.specs.declared.grounding.Grounded.{Grounded}
 use Rattle.replay.proofs.NameLists.{region-length}
-use Rattle.replay.proofs.Regions.{within-front, slice-behind, within-end, end-part, slice-before, put-end}
+use Rattle.replay.proofs.Regions.{slice-part, within-front, slice-behind, within-end, end-part, slice-before, put-end}
 use Rattle.replay.proofs.HeldWords.{heldOf}
 use Rattle.replay.proofs.HeldEnd.{lines-held}
 use Rattle.replay.proofs.HeldReplay.{Ends, held-ends, held-refused, Accepted, end-accepted, end-refused}
@@ -47,10 +48,6 @@ use Rattle.replay.proofs.Begins.{Begun, begun}
 use Rattle.replay.specs.Refused.{Listed}
 use Rattle.replay.proofs.Theory.{length-names, length-formulas}
 use Rattle.replay.proofs.Refusals.{grounded-refuses}
-
-length-countFrom : (n k : ℕ) → length (countFrom k n) ≡ n
-length-countFrom zero k = refl
-length-countFrom (suc n) k = ap suc (length-countFrom n (suc k))
 
 -- The live formulas of a theory that was read.
 module _ (layout : Layout) (count full : ℕ) (old : List ℕ) (arranged : Arranged layout (length old)) (few : count ≤ 1024) (small : full ≤ 4096) where
@@ -219,12 +216,6 @@ module _ (layout : Layout) (old new : List ℕ) (arranged : Arranged layout (len
   abbrev mid : List ℕ
   mid = new ++ drop (layout .rows) old
 
-  pub mid-long : length mid ≡ length old
-  mid-long = length-front old new (layout .rows) same
-
-  pub mid-arranged : Arranged layout (length mid)
-  mid-arranged = rw mid-long arranged
-
   mid-rows : rowsIn layout mid ≡ rowsIn layout old
   mid-rows = slice-behind old new (layout .rows) (omega (arith, arranged)) same (layout .rows) (layout .names) (omega arith) (arranged .names)
 
@@ -240,15 +231,10 @@ pub rows-read : (layout : Layout) (old new : List ℕ) → Arranged layout (leng
     → rowsIn layout (putMid (layout .rows) (layout .names - layout .rows) old new) ≡ new
 rows-read layout old new arranged same =
     let n = layout .names - layout .rows in
-    let e : layout .names ≡ layout .rows + n = omega (arith, arranged) in
     let l = length-drop (layout .rows) old in
     let k : length new ≡ n = same ∙ length-take-le n (drop (layout .rows) old) (omega (arith, arranged)) in
-    ap (λ (j : ℕ). slice (layout .rows) j (putMid (layout .rows) n old new)) e ∙ drop-take (layout .rows) n (putMid (layout .rows) n old new)
+    sym (slice-part (putMid (layout .rows) n old new) (layout .rows) (layout .names) (arranged .names))
     ∙ ap (take n) (drop-at (take (layout .rows) old) _ (layout .rows) (length-take-le (layout .rows) old (omega (arith, arranged)))) ∙ take-at new _ n k
-
--- what is told of a theory, by its answer
-pub told-theory : (P : Problem) (text : Bytes) (index : Name → ℕ) (r other : TheoryRead) → r ≡ other → (names work : List ℕ) → ToldTheory P text index r names work → ToldTheory P text index other names work
-told-theory P text index r other e names work t = subst (λ (q : TheoryRead). ToldTheory P text index q names work) e t
 
 -- A problem that was read, or not.
 module _ (problem theory derivation : Bytes) (rows : List ℕ) (r : ProblemRead) (told : ProblemTold problem rows r) where

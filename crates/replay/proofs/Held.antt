@@ -3,7 +3,7 @@
 -- Assumes nothing.
 use Prim.Native.Nat.{ℕ, suc, _+_, _≤_}
 use native.Mathlib.Omega.{arith}
-use mathlib.Core.Path.{_≡_, refl, sym, ap, subst, _∙_}
+use mathlib.Core.Path.{_≡_, refl, sym, ap, _∙_}
 use mathlib.Core.List.{List, [], _∷_, _++_, append-assoc}
 use mathlib.Core.Bool.{Bool, true, false}
 use lib.Dec.{leb}
@@ -37,7 +37,7 @@ use Rattle.replay.specs.Theory.{entry, Theory, formulasOf, namesOf, numb
 use Rattle.replay.specs.Theory.{unlessEnded, removed, refuted, split, climbing, highest, within, stepped}
 use Rattle.replay.specs.Steps.{Step, go, stop}
 use Rattle.replay.specs.memory.Held.{held, rewrittenIn, openedIn, removedIn, isSplit, splitIn, refutedIn}
-use Rattle.replay.proofs.Theory.{EachPart, each-back, names-append}
+use Rattle.replay.proofs.Theory.{EachPart, each-at, names-append}
 use Rattle.replay.proofs.Steps.{stepped-step}
 use Rattle.replay.proofs.Soundness.{Live, steps-every}
 use Rattle.replay.proofs.Ground.{Well, formulas-numbered, steps-sized, steps-well}
@@ -57,7 +57,7 @@ held-first N T = rw (formulas-numbered 1 T, names-numbered 1 T)
 
 -- What is true of each formula is so of that of a name.
 located-each : (Q : Formula → Type 0) {n : ℕ} {t : Theory} (l : Located n t) → Each Q (formulasOf t) → Q (l .formula)
-located-each Q {n} l q = each-back Q (l .before) (entry n (l .formula) ∷ l .after) (subst (λ (u : Theory). Each Q (formulasOf u)) (l .is) q) .0
+located-each Q {n} l q = each-at Q (l .before) (l .after) (entry n (l .formula)) (rw (l .is) at q)
 
 -- The words around an inner formula of that name, whatever stands in its place.
 module _ (N : Naming) {n : ℕ} {t : Theory} (l : Located n t) (path : List ℕ) (r : Inner N (l .formula) (λ k. at path k (l .formula))) where

@@ -25,7 +25,8 @@ use Rattle.formula.proofs.memory.Words.{afterFirst-words}
 use Rattle.formula.proofs.memory.ClauseText.{Printable, clauseLines-words, clauseText-truth}
 use Rattle.formula.proofs.memory.GroundTable.{table-named, clauseAt-table}
 use Rattle.replay.specs.Theory.{formulasOf, State, live, ended, liveTheory}
-use Rattle.replay.specs.Replay.{areClauses, isGround, theoryText}
+use Rattle.replay.specs.Ground.{areClauses, isGround}
+use Rattle.replay.specs.TheoryText.{theoryText}
 use Rattle.replay.proofs.Theory.{length-names, length-formulas}
 use Rattle.replay.proofs.Ground.{Well}
 use Rattle.replay.proofs.HeldWords.{theoryWords, heldOf}

@@ -19,7 +19,8 @@ use Rattle.text.proofs.Problem.{Valid}
 use Rattle.formula.specs.memory.Clauses.{allAt, clauseAt}
 use Rattle.formula.proofs.memory.Naming.{Naming}
 use Rattle.replay.specs.Theory.{formulasOf, namesOf, State, live, ended, liveTheory, stepped}
-use Rattle.replay.specs.Replay.{Replayed, derivationFrom, isGround, groundOf}
+use Rattle.replay.specs.Replay.{Replayed, derivationFrom}
+use Rattle.replay.specs.Ground.{isGround, groundOf}
 use Rattle.replay.specs.memory.Held.{Held, ruleName, steppedIn, endIn}
 use Rattle.replay.proofs.Simulation.{replayedWith, derivation-alike, derivation-keeps}
 use Rattle.replay.proofs.HeldWords.{heldOf}

@@ -12,15 +12,16 @@ use Rattle.text.specs.Sizes.{formulaCount, theorySize}
 use Rattle.text.specs.Outcome.{done, mapped, provided, _>>_}
 use Rattle.text.proofs.Laws.{and-left, and-right}
 use Rattle.logic.specs.Formula.{Formula, partsOf}
-use Rattle.logic.specs.Limits.{sizeTotal, sizesFit}
+use Rattle.logic.specs.Limits.{sizesFit}
 use Rattle.formula.specs.memory.Kinds.{skip}
 use Rattle.formula.specs.memory.Words.{words}
 use Rattle.formula.proofs.memory.Kinds.{skip-none}
 use Rattle.formula.proofs.memory.Naming.{Naming, allWordsIn}
-use Rattle.formula.proofs.memory.Words.{length-words, skip-words}
+use Rattle.formula.proofs.memory.Words.{length-words, allWords-sizes, skip-words}
 use Rattle.replay.specs.Theory.{Theory, formulasOf, namesOf, State, live, ended, liveTheory, greatestUsed, within}
 use Rattle.replay.specs.memory.Held.{Held, held}
 use Rattle.replay.proofs.Theory.{length-names, length-formulas}
+use Rattle.replay.proofs.Ground.{sizes-total}
 
 -- UNSAT was
 abbrev pub isOver : State → Bool
@@ -44,11 +45,6 @@ module _ (N : Naming) where
   words-append [] u = refl
   words-append (e ∷ es) u = rw (words-append es u, append-assoc)
 
-  pub words-total : (fs : List Formula) → length (theoryWords fs) ≡ sizeTotal fs
-  unfolding words
-  words-total [] = refl
-  words-total (f ∷ fs) = rw (length-append, length-words N f, words-total fs)
-
   -- so many formulas are passed over whole
   pub skip-live : (t : Theory) (s : List ℕ) → skip (liveWords t ++ s) (length t) ≡ length (liveWords t)
   unfolding words
@@ -60,7 +56,7 @@ module _ (N : Naming) where
 
   sizes-held : (t : Theory) → sizesFit (formulasOf t) ≡ (leb (length (liveWords t)) 4096 && leb (length (namesOf t)) 1024)
   unfolding theorySize formulaCount
-  sizes-held t = rw (words-total (formulasOf t), length-formulas t, length-names t)
+  sizes-held t = rw (allWords-sizes (N .variableIndex) (N .predicateIndex) (partsOf (formulasOf t)), sizes-total (formulasOf t), length-formulas t, length-names t)
 
   module _ (t : Theory) (fits : sizesFit (formulasOf t) ≡ true) where
     pub words-few : length (liveWords t) ≤ 4096

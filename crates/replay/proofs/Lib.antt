@@ -1,3 +1,4 @@
+pub mod Outcomes
 pub mod Steps
 pub mod Theory
 pub mod Soundness
@@ -14,7 +15,6 @@ pub mod Regions
 pub mod Targets
 pub mod Decisions
 pub mod Moves
-pub mod Splits
 pub mod HeldWords
 pub mod HeldTargets
 pub mod HeldRules
@@ -27,7 +27,6 @@ pub mod HeldReplay
 pub mod TheoryReads
 pub mod Begins
 pub mod GroundReads
-pub mod Footers
 pub mod Printing
 pub mod Concluding
 pub mod Promises

@@ -2,28 +2,23 @@
 -- Assumes nothing.
 use Prim.Native.Nat.{ℕ, _+_, _-_, _≤_, _<_}
 use native.Mathlib.Omega.{arith}
-use mathlib.Core.Path.{_≡_, sym, ap, ap₂, subst, _∙_}
+use mathlib.Core.Path.{_≡_, sym, ap, ap₂, _∙_}
 use mathlib.Core.List.{List, [], _∷_, _++_}
 use mathlib.Core.Bool.{Bool, true, false}
 use borrow.Rule.Slice.PartMut.{putMid}
 use lib.ListN.{length, take, drop, set, length-set, length-drop}
 use lib.Seq.{slice, length-take-le, length-front, take-take, take-set-le, take-set-lt, drop-set-lt, take-suc-set, drop-cons, getD-set-same}
-use Rattle.text.specs.Outcome.{Outcome, done, refused}
+use Rattle.text.specs.Outcome.{done, refused}
 use Rattle.formula.specs.memory.Words.{truthWord}
 use Rattle.formula.specs.memory.Storing.{spliced}
 use Rattle.formula.specs.memory.Rewriting.{endWithin, rewrittenWords}
 use Rattle.formula.specs.declared.decide.Fit.{Fit}
-use Rattle.replay.specs.memory.Held.{Held, held, exchanged, sizedIn, openedIn}
-use Rattle.replay.specs.memory.Steps.{liveNames, heldIn, Arranged, Few, Moved, ToldStep, Roomy, Fronted}
+use Rattle.replay.specs.memory.Held.{held, exchanged, sizedIn, openedIn}
+use Rattle.replay.specs.memory.Steps.{liveNames, heldIn, Arranged, Few, Moved, Roomy, Fronted}
 use Rattle.replay.specs.declared.live.Live.{Live}
 use Rattle.replay.specs.declared.live.Layout.{Layout}
-use Rattle.replay.specs.declared.live.Step.{Step}
 use Rattle.replay.proofs.Regions.{behind-front, within-front, slice-behind, within-end, end-part, slice-before, spliced-front, made-front, part-end, put-end}
 use Rattle.replay.proofs.Decisions.{madeWords, sized-over, sized-within}
-
--- what is told of a step, of the same outcome
-pub told-as : (outcome other : Outcome ℕ Held) (layout : Layout) (old : List ℕ) (r : Step) (work : List ℕ) → other ≡ outcome → ToldStep other layout old r work → ToldStep outcome layout old r work
-told-as outcome other layout old r work e t = subst (λ (o : Outcome ℕ Held). ToldStep o layout old r work) e t
 
 abbrev withFull : Live → ℕ → Bool → Live
 withFull live full ended = record { count = live .count; full = full; top = live .top; ended = ended }
@@ -66,10 +61,6 @@ module _ (layout : Layout) (live : Live) (old : List ℕ) (arranged : Arranged l
             few = record { full = h; count = few .count };
             rows = slice-behind old new (layout .rows) room same (layout .rows) (layout .names) (omega arith) (arranged .names);
           }
-
--- what memory holds, of the same outcome
-pub moved-as : (outcome other : Outcome ℕ Held) (layout : Layout) (old : List ℕ) (live : Live) (work : List ℕ) → other ≡ outcome → Moved other layout old live work → Moved outcome layout old live work
-moved-as outcome other layout old live work e t = subst (λ (o : Outcome ℕ Held). Moved o layout old live work) e t
 
 -- UNSAT
 module _ (layout : Layout) (live : Live) (old : List ℕ) (arranged : Arranged layout (length old)) where

@@ -5,13 +5,12 @@ use native.Mathlib.Numerals.{add-one}
 use native.Mathlib.Omega.{arith}
 use mathlib.Core.Path.{_≡_, refl, ap, _∙_}
 use mathlib.Core.List.{List, [], _∷_, _++_}
-use mathlib.Core.Bool.{Bool, true, false, _&&_}
-use lib.Dec.{eqb}
 use lib.ListN.{length, getD, take, drop, set, length-take, length-drop, drop-of-length-le}
 use lib.Seq.{drop-cons, getD-take, getD-drop, set-at}
 use borrow.Author.Tests.{eq-eqb, ne-eqb}
 use Rattle.text.specs.Bytes.{same}
 use Rattle.logic.specs.Meaning.{countFrom}
+use Rattle.formula.proofs.memory.Admitted.{length-countFrom}
 use Rattle.replay.specs.memory.Names.{indexIn}
 
 -- a list that stands in memory from a place on
@@ -47,22 +46,7 @@ pub index-none : (name : ℕ) → indexIn name [] ≡ 0
 unfolding indexIn
 index-none name = refl
 
--- lists of different lengths are not the same
-pub same-lengths : (s t : List ℕ) → (length s ≡ length t → ⊥) → same s t ≡ false
-same-lengths [] [] h = absurd (h refl)
-same-lengths [] (b ∷ t) h = refl
-same-lengths (a ∷ s) [] h = refl
-same-lengths (a ∷ s) (b ∷ t) h = pick (eqb a b) (same-lengths s t (λ e. h (ap suc e)))
-  where
-    pick : (c : Bool) → same s t ≡ false → (c && same s t) ≡ false
-    pick true e = e
-    pick false e = refl
-
 -- The names 1, 2, 3 and so on, at the front of a list.
-
-length-countFrom : (k n : ℕ) → length (countFrom k n) ≡ n
-length-countFrom k zero = refl
-length-countFrom k (suc n) = ap suc (length-countFrom (suc k) n)
 
 -- one number more, at the end or in the list
 countFrom-end : (k n m : ℕ) (rest : List ℕ) → m ≡ k + n → countFrom k n ++ (m ∷ rest) ≡ countFrom k (suc n) ++ rest
@@ -71,5 +55,5 @@ countFrom-end k (suc n) m rest e = ap (λ (l : List ℕ). k ∷ l) (countFrom-en
 
 pub first-more : (list : List ℕ) (i : ℕ) → i < length list → set (countFrom 1 i ++ drop i list) i (i + 1) ≡ countFrom 1 (i + 1) ++ drop (i + 1) list
 first-more list i h =
-    rw (add-one i, drop-cons list i 0 h, set-at (countFrom 1 i) _ (drop (suc i) list) (suc i) i (length-countFrom 1 i))
+    rw (add-one i, drop-cons list i 0 h, set-at (countFrom 1 i) _ (drop (suc i) list) (suc i) i (length-countFrom i 1))
     (countFrom-end 1 i (suc i) (drop (suc i) list) (omega arith))

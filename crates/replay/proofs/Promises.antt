@@ -14,20 +14,20 @@ use Rattle.text.specs.Bytes.{Bytes, bytes}
 use Rattle.text.specs.Outcome.{done}
 use Rattle.text.specs.Lines.{Judged}
 use Rattle.text.specs.Problem.{Problem, problemOf}
-use Rattle.text.proofs.Outcome.{allowed-done}
+use Rattle.text.proofs.Laws.{same-true}
 use Rattle.text.proofs.Refusals.{Refuses, never, only}
 use Rattle.logic.specs.Formula.{Formula}
 use Rattle.logic.specs.Meaning.{Structure, Extends, satisfies}
-use Rattle.replay.specs.Theory.{theoryOf}
-use Rattle.replay.specs.Replay.{Ground, groundText}
+use Rattle.replay.specs.TheoryText.{theoryOf}
+use Rattle.replay.specs.Ground.{Ground, groundText}
 use Rattle.replay.specs.Answer.{Result, answerOf, outputAfter, resultOf, replayed, checked, replayResult, checkResult}
 use Rattle.replay.specs.Accepted.{Grounds, finalText, accepts, Fits, Equivalent}
 use Rattle.replay.specs.Refused.{Listed, Refused}
 use Rattle.replay.specs.Promise.{Promise}
 use Rattle.replay.specs.memory.Conclusions.{answeredOf, shown}
 use Rattle.replay.specs.declared.job.Answer.{Answer}
-use Rattle.replay.proofs.Refusals.{replayed-refuses, checked-refuses, checked-accepts}
-use Rattle.replay.proofs.Accepted.{checked-judges}
+use Rattle.replay.proofs.Refusals.{replayed-refuses, checked-refuses}
+use Rattle.replay.proofs.Accepted.{check-answered}
 use Rattle.replay.proofs.Demands.{demand-two, demand-two-result, demand-three, replay-two, replay-two-result, replay-three, false-nowhere}
 
 -- One outcome.
@@ -106,9 +106,8 @@ module _ (problem theory derivation claim : Bytes) (output work : List ℕ) {r :
   -- What is accepted is written: the claim.
   pub check-written : r .number ≡ 0 → new ≡ claim ++ drop (length claim) output
   check-written e =
-      let a = checked-accepts problem theory derivation claim output work .0 (sym (promise .number) ∙ e) in
-      let j = allowed-done _ (checked problem theory derivation claim output work) (a .0) (checked-judges problem theory derivation output work claim) (a .1) in
-      promise .written ∙ ap (λ (k : Judged Ground). outputAfter k output) (a .1) ∙ ap (λ (t : Bytes). t ++ drop (length t) output) (sym (j .1))
+      let (G, is, a) = check-answered problem theory derivation output work claim (sym (promise .number) ∙ e) in
+      promise .written ∙ ap (λ (k : Judged Ground). outputAfter k output) is ∙ ap (λ (t : Bytes). t ++ drop (length t) output) (sym (same-true claim (groundText G) (a .agrees)))
 
   -- Demand 2.
   module _ (P : Problem) (T : List Formula) (readProblem : problemOf problem ≡ done P) (readTheory : theoryOf P theory ≡ done T)

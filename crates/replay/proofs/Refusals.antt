@@ -20,8 +20,10 @@ use Rattle.text.proofs.Refusals.{From, readText-refuses, problemOf-refuses, rea
 use Rattle.logic.specs.Formula.{Formula, Formulas, noParts, part, Side, all, any}
 use Rattle.logic.proofs.Rules.{onJunction-cases}
 use Rattle.logic.proofs.Refusals.{readFormula-refuses, apply-refuses, at-refuses}
-use Rattle.replay.specs.Theory.{theoryLine, theoryOf, Theory, State, live, ended, initial, inPlace, unlessEnded, wholeOnly, namedParts, splitParts, split, stepped}
-use Rattle.replay.specs.Replay.{Place, top, heading, among, bottom, Replayed, lineDone, derivationLine, wholeDerivation, derivationFrom, derivationOf, Ground, footerLine, groundOf}
+use Rattle.replay.specs.TheoryText.{theoryLine, theoryOf}
+use Rattle.replay.specs.Theory.{Theory, State, live, ended, initial, inPlace, unlessEnded, wholeOnly, namedParts, splitParts, split, stepped}
+use Rattle.replay.specs.Replay.{Place, top, heading, among, bottom, Replayed, lineDone, derivationLine, wholeDerivation, derivationFrom, derivationOf}
+use Rattle.replay.specs.Ground.{Ground, footerLine, groundOf}
 use Rattle.replay.specs.Refused.{fileOf, Listed}
 use Rattle.replay.specs.Answer.{differenceLine, grounded, replayed, checked, answerOf}
 

@@ -37,6 +37,13 @@ length-spliced work at end full new h l =
     length-append (take at work) (new ++ slice end full work)
     ∙ ap₂ _+_ (length-take-le at work (omega arith)) (length-append new (slice end full work) ∙ ap (λ (k : ℕ). length new + k) (length-slice end full work l))
 
+-- a part as the code takes it
+pub slice-part : (work : List ℕ) (i j : ℕ) → i ≤ j → take (j - i) (drop i work) ≡ slice i j work
+slice-part work i j h =
+    let n = j - i in
+    let e : j ≡ i + n = omega arith in
+    sym (drop-take i n work) ∙ ap (λ (k : ℕ). slice i k work) (sym e)
+
 -- A part at the front, written.
 module _ (old new : List ℕ) (rows : ℕ) (room : rows ≤ length old) (same : length new ≡ length (take rows old)) where
   part-length : length new ≡ rows
@@ -53,11 +60,7 @@ module _ (old new : List ℕ) (rows : ℕ) (room : rows ≤ length old) (same : 
   within-front k h = take-append-le k new (drop rows old) (omega (arith, part-length))
 
   pub slice-behind : (i j : ℕ) → rows ≤ i → i ≤ j → slice i j (new ++ drop rows old) ≡ slice i j old
-  slice-behind i j h l =
-      let n = j - i in
-      let e : j ≡ i + n = omega arith in
-      ap (λ (k : ℕ). slice i k (new ++ drop rows old)) e ∙ drop-take i n (new ++ drop rows old) ∙ ap (take n) (behind-front i h) ∙ sym (drop-take i n old)
-      ∙ ap (λ (k : ℕ). slice i k old) (sym e)
+  slice-behind i j h l = sym (slice-part (new ++ drop rows old) i j l) ∙ ap (take (j - i)) (behind-front i h) ∙ slice-part old i j l
 
 -- A part at the end, written.
 module _ (old new : List ℕ) (names : ℕ) (room : names ≤ length old) where
@@ -105,13 +108,6 @@ module _ (work : List ℕ) (full : ℕ) (room : full ≤ length work) where
   made-front decided at flags h =
       spliced-front at (endWithin work at full) (rewrittenWords decided work at full flags) (omega arith)
       ∙ ap₂ (λ (e : ℕ) (new : List ℕ). exchanged (take full work) at e new) (end-front at) (rewritten-front decided at flags h)
-
--- a part as the code takes it
-pub slice-part : (work : List ℕ) (i j : ℕ) → i ≤ j → take (j - i) (drop i work) ≡ slice i j work
-slice-part work i j h =
-    let n = j - i in
-    let e : j ≡ i + n = omega arith in
-    sym (drop-take i n work) ∙ ap (λ (k : ℕ). slice i k work) (sym e)
 
 -- a place with room behind the list, as the stores ask for it
 pub roomy-placed : {work : List ℕ} {at full next : ℕ} → Roomy work at full next → Placed work at (at + 1) full next

@@ -1,7 +1,7 @@
 -- A replay over one kind of states is that over another, where what a rule line does to the one is what it does to the other: line by line.
 -- Assumes nothing.
 use Prim.Native.Nat.{ℕ, zero, suc}
-use mathlib.Core.Path.{_≡_, refl, ap, _∙_}
+use mathlib.Core.Path.{_≡_, refl, sym, ap, _∙_}
 use mathlib.Core.List.{[], _∷_}
 use lib.ListN.{length}
 use Rattle.text.specs.Bytes.{Bytes}
@@ -9,7 +9,8 @@ use Rattle.text.specs.Outcome.{Outcome, done, refused, mapped, _>>=_}
 use Rattle.text.specs.Reading.{Reader}
 use Rattle.text.specs.Lines.{onLine, readLines}
 use Rattle.text.specs.Derivation.{RuleLine, Line, step, footer, readLine, readVersion, readGrounder}
-use Rattle.text.proofs.Outcome.{Allowed, allowed-mapped}
+use Rattle.text.proofs.Outcome.{Allowed, allowed-mapped, allowed-bind, allowed-any, mapped-mapped}
+use Rattle.replay.proofs.Outcomes.{alike-bind}
 use Rattle.text.proofs.Lines.{readText-keeps}
 use Rattle.replay.specs.Replay.{Place, top, heading, among, bottom, Replayed, wholeDerivation, lineDone, derivationLine, derivationFrom}
 
@@ -74,59 +75,34 @@ module _ {S U : Type 0} (move : S → RuleLine → Outcome ℕ S) (other : U →
   done-good s rules (footer names) q = q
 
   done-alike : (s : S) (rules : ℕ) (l : Line) → Q s → lineDone other (g s) rules l ≡ mapped placeWith (lineDone move s rules l)
-  done-alike s rules (step l) q = ap (mapped (λ u. among u (suc rules))) (alike s l q) ∙ pick (move s l)
-    where
-      pick : (o : Outcome ℕ S) → mapped (λ u. among u (suc rules)) (mapped g o) ≡ mapped placeWith (mapped (λ u. among u (suc rules)) o)
-      pick (done u) = refl
-      pick (refused n) = refl
+  done-alike s rules (step l) q =
+      ap (mapped (λ u. among u (suc rules))) (alike s l q) ∙ mapped-mapped (λ u. among u (suc rules)) g (move s l) ∙ sym (mapped-mapped placeWith (λ u. among u (suc rules)) (move s l))
   done-alike s rules (footer names) q = refl
 
   module _ (first : S) (good : Q first) where
-    line-good : (p : Place S) (s : Bytes) → Good p → Allowed (λ (r : Place S × Bytes). Good (r .0)) (derivationLine move first p s)
+    abbrev GoodThen : Place S × Bytes → Type 0
+    GoodThen r = Good (r .0)
+
+    line-good : (p : Place S) (s : Bytes) → Good p → Allowed GoodThen (derivationLine move first p s)
     unfolding derivationLine
-    line-good top s q = pick (readVersion s)
-      where
-        pick : (o : Outcome ℕ (Unit {0} × Bytes)) → Allowed (λ (r : Place S × Bytes). Good (r .0)) (o >>= λ r. done (heading, r .1))
-        pick (done r) = tt
-        pick (refused n) = tt
-    line-good heading s q = pick (readGrounder s)
-      where
-        pick : (o : Outcome ℕ (Bytes × Bytes)) → Allowed (λ (r : Place S × Bytes). Good (r .0)) (o >>= λ r. done (among first 0, r .1))
-        pick (done r) = good
-        pick (refused n) = tt
-    line-good (among st rules) s q = pick (readLine s)
-      where
-        pick : (o : Outcome ℕ (Line × Bytes)) → Allowed (λ (r : Place S × Bytes). Good (r .0)) (o >>= λ r. mapped (λ u. (u, r .1)) (lineDone move st rules (r .0)))
-        pick (done r) = allowed-mapped Good (λ (v : Place S × Bytes). Good (v .0)) (λ u. (u, r .1)) (λ u h. h) (lineDone move st rules (r .0)) (done-good st rules (r .0) q)
-        pick (refused n) = tt
+    line-good top s q = allowed-bind (λ r. Unit {0}) GoodThen (λ r. done (heading, r .1)) (λ r h. tt) (readVersion s) (allowed-any (readVersion s))
+    line-good heading s q = allowed-bind (λ r. Unit {0}) GoodThen (λ r. done (among first 0, r .1)) (λ r h. good) (readGrounder s) (allowed-any (readGrounder s))
+    line-good (among st rules) s q =
+        allowed-bind (λ r. Unit {0}) GoodThen (λ r. mapped (λ u. (u, r .1)) (lineDone move st rules (r .0)))
+        (λ r h. allowed-mapped Good GoodThen (λ u. (u, r .1)) (λ u w. w) (lineDone move st rules (r .0)) (done-good st rules (r .0) q)) (readLine s) (allowed-any (readLine s))
     line-good (bottom st rules names) s q = tt
 
-    line-alike : (p : Place S) (s : Bytes) → Good p → derivationLine other (g first) (placeWith p) s ≡ mapped (λ (r : Place S × Bytes). (placeWith (r .0), r .1)) (derivationLine move first p s)
-    unfolding derivationLine
-    line-alike top s q = pick (readVersion s)
-      where
-        pick : (o : Outcome ℕ (Unit {0} × Bytes))
-            → _≡_ {A = Outcome ℕ (Place U × Bytes)} (o >>= λ r. done (heading, r .1)) (mapped (λ (r : Place S × Bytes). (placeWith (r .0), r .1)) (o >>= λ r. done (heading, r .1)))
-        pick (done r) = refl
-        pick (refused n) = refl
-    line-alike heading s q = pick (readGrounder s)
-      where
-        pick : (o : Outcome ℕ (Bytes × Bytes))
-            → _≡_ {A = Outcome ℕ (Place U × Bytes)} (o >>= λ r. done (among (g first) 0, r .1)) (mapped (λ (r : Place S × Bytes). (placeWith (r .0), r .1)) (o >>= λ r. done (among first 0, r .1)))
-        pick (done r) = refl
-        pick (refused n) = refl
-    line-alike (among st rules) s q = pick (readLine s)
-      where
-        further : (t : Bytes) (o : Outcome ℕ (Place S))
-            → _≡_ {A = Outcome ℕ (Place U × Bytes)} (mapped (λ u. (u, t)) (mapped placeWith o)) (mapped (λ (r : Place S × Bytes). (placeWith (r .0), r .1)) (mapped (λ u. (u, t)) o))
-        further t (done u) = refl
-        further t (refused n) = refl
+    abbrev thenWith : Place S × Bytes → Place U × Bytes
+    thenWith r = (placeWith (r .0), r .1)
 
-        pick : (o : Outcome ℕ (Line × Bytes))
-            → _≡_ {A = Outcome ℕ (Place U × Bytes)} (o >>= λ r. mapped (λ u. (u, r .1)) (lineDone other (g st) rules (r .0)))
-            (mapped (λ (r : Place S × Bytes). (placeWith (r .0), r .1)) (o >>= λ r. mapped (λ u. (u, r .1)) (lineDone move st rules (r .0))))
-        pick (done r) = ap (mapped (λ u. (u, r .1))) (done-alike st rules (r .0) q) ∙ further (r .1) (lineDone move st rules (r .0))
-        pick (refused n) = refl
+    line-alike : (p : Place S) (s : Bytes) → Good p → derivationLine other (g first) (placeWith p) s ≡ mapped thenWith (derivationLine move first p s)
+    unfolding derivationLine
+    line-alike top s q = alike-bind thenWith (λ r. done (heading, r .1)) (λ r. done (heading, r .1)) (λ r. refl) (readVersion s)
+    line-alike heading s q = alike-bind thenWith (λ r. done (among first 0, r .1)) (λ r. done (among (g first) 0, r .1)) (λ r. refl) (readGrounder s)
+    line-alike (among st rules) s q =
+        alike-bind thenWith (λ r. mapped (λ u. (u, r .1)) (lineDone move st rules (r .0))) (λ r. mapped (λ u. (u, r .1)) (lineDone other (g st) rules (r .0)))
+        (λ r. ap (mapped (λ u. (u, r .1))) (done-alike st rules (r .0) q) ∙ mapped-mapped (λ u. (u, r .1)) placeWith (lineDone move st rules (r .0))
+        ∙ sym (mapped-mapped thenWith (λ u. (u, r .1)) (lineDone move st rules (r .0)))) (readLine s)
     line-alike (bottom st rules names) s q = refl
 
     -- the replay of a text over the other states

@@ -2,7 +2,7 @@
 -- Assumes nothing.
 use Prim.Native.Nat.{ℕ}
 use mathlib.Core.Path.{_≡_, refl, ap, _∙_}
-use mathlib.Core.List.{List, [], _∷_, _++_}
+use mathlib.Core.List.{List, [], _∷_}
 use mathlib.Core.Bool.{Bool, true, false, _&&_, and-true, and-false}
 use Rattle.text.specs.Problem.{Problem}
 use Rattle.text.specs.Derivation.{Rule, RuleLine}
@@ -12,7 +12,7 @@ use Rattle.logic.specs.Meaning.{Structure, nowhere, holds, truths, joinAll, sat
 use Rattle.logic.specs.Tables.{MakesAt}
 use Rattle.replay.specs.Theory.{entry, formulasOf, State, liveTheory}
 use Rattle.replay.specs.Steps.{Step, rewriting, removing, splitting, ending, Steps, stop, go}
-use Rattle.replay.proofs.Theory.{EachPart, each-append, each-front, each-back, each-named, satisfies-append, satisfies-around, satisfies-named}
+use Rattle.replay.proofs.Theory.{EachPart, each-around, each-at, each-named, satisfies-append, satisfies-around, satisfies-named}
 
 abbrev pub Live : (Formula → Type 0) → State → Type 0
 Live Q s = Each Q (formulasOf (liveTheory s))
@@ -22,15 +22,10 @@ module _ (P : Problem) (Q : Formula → Type 0)
     (parts : (fs : Formulas) → Q (connective (junction all) fs) → EachPart Q fs)
     (falsity : Q (truth false)) where
   step-every : (s u : State) (l : RuleLine) → Step P s l u → Live Q s → Live Q u
-  step-every s u l (rewriting r n path before after f h top a m e) q =
-      let rest = each-back Q before (entry n f ∷ after) q in
-      each-append Q before (entry n h ∷ after) (each-front Q before (entry n f ∷ after) q) (rules r path f h m (rest .0), rest .1)
-  step-every s u l (removing n before after top a e) q =
-      each-append Q before after (each-front Q before (entry n (truth true) ∷ after) q) (each-back Q before (entry n (truth true) ∷ after) q .1)
+  step-every s u l (rewriting r n path before after f h top a m e) q = each-around Q before (entry n f ∷ []) (entry n h ∷ []) after (λ p. (rules r path f h m (p .0), tt)) q
+  step-every s u l (removing n before after top a e) q = each-around Q before (entry n (truth true) ∷ []) [] after (λ p. tt) q
   step-every s u l (splitting n names before ts after f fs top a c w e) q =
-      let old = entry n (connective (junction all) (part f fs)) ∷ after in
-      let rest = each-back Q before old q in
-      each-append Q before (ts ++ after) (each-front Q before old q) (each-append Q ts after (each-named Q names (part f fs) ts w (parts (part f fs) (rest .0))) (rest .1))
+      each-around Q before (entry n (connective (junction all) (part f fs)) ∷ []) ts after (λ p. each-named Q names (part f fs) ts w (parts (part f fs) (p .0))) q
   step-every s u l (ending n before after top a) q = (falsity, tt)
 
   pub steps-every : (s u : State) (ls : List RuleLine) → Steps P s ls u → Live Q s → Live Q u
@@ -44,7 +39,7 @@ module _ (P : Problem) (Q : Formula → Type 0)
     unfolding holds
     step-sound s u l (rewriting r n path before after f h top a m e) q =
         satisfies-around S before (entry n f ∷ []) (entry n h ∷ []) after
-        (ap (λ (b : Bool). b && true) (sound r path f h m (each-back Q before (entry n f ∷ after) q .0)))
+        (ap (λ (b : Bool). b && true) (sound r path f h m (each-at Q before after (entry n f) q)))
     step-sound s u l (removing n before after top a e) q = satisfies-around S before (entry n (truth true) ∷ []) [] after refl
     step-sound s u l (splitting n names before ts after f fs top a c w e) q =
         satisfies-around S before (entry n (connective (junction all) (part f fs)) ∷ []) ts after

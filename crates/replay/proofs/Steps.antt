@@ -152,13 +152,10 @@ module _ (P : Problem) where
       (λ u w. allowed-weaken (λ v. (v ≡ live u top) × (sizesFit (formulasOf u) ≡ true)) (Step P s l) (λ v e. rw (e .0) (h u w (e .1))) (within top u) (within-fits top u))
       o q
 
-  truth-removed : (f : Formula) → Allowed (λ ts. (isTruth true f ≡ true) × (ts ≡ [])) (removed f)
-  truth-removed f =
-      allowed-mapped (λ u. isTruth true f ≡ true) (λ ts. (isTruth true f ≡ true) × (ts ≡ [])) (λ u. []) (λ u e. (e, refl)) (provided (isTruth true f) 13) (allowed-provided (isTruth true f) 13)
-
-  truth-refuted : (f : Formula) → Allowed (λ ts. (isTruth false f ≡ true) × (ts ≡ [])) (refuted f)
-  truth-refuted f =
-      allowed-mapped (λ u. isTruth false f ≡ true) (λ ts. (isTruth false f ≡ true) × (ts ≡ [])) (λ u. []) (λ u e. (e, refl)) (provided (isTruth false f) 13) (allowed-provided (isTruth false f) 13)
+  -- a truth value gives way to nothing
+  truth-gone : (b : Bool) (f : Formula) → Allowed {E = ℕ} (λ (ts : Theory). (isTruth b f ≡ true) × (ts ≡ [])) (mapped (λ u. []) (provided (isTruth b f) 13))
+  truth-gone b f =
+      allowed-mapped (λ u. isTruth b f ≡ true) (λ ts. (isTruth b f ≡ true) × (ts ≡ [])) (λ u. []) (λ u e. (e, refl)) (provided (isTruth b f) 13) (allowed-provided (isTruth b f) 13)
 
   -- a formula that gives way to nothing that is allowed
   blocked : {A : Type 0} (W : A → Type 0) (m : ℕ) (k : Formula → Outcome ℕ Theory) → Never k → (c : Theory → Outcome ℕ A) (t : Theory) → Allowed W (inPlace m k t >>= c)
@@ -179,7 +176,7 @@ module _ (P : Problem) where
   stepped-step (live t top) (trivial p) =
       let Q : Formula → Theory → Type 0 = λ f ts. (p .path ≡ []) × ((isTruth true f ≡ true) × (ts ≡ [])) in
       sized (trivial p) (live t top) top (Placed Q (p .name) t) (λ u w e. taken (p .name) top t u (p .path) w e) (inPlace (p .name) (wholeOnly (p .path) removed) t)
-      (in-place Q (p .name) (wholeOnly (p .path) removed) (whole-only (λ f ts. (isTruth true f ≡ true) × (ts ≡ [])) removed truth-removed (p .path)) t)
+      (in-place Q (p .name) (wholeOnly (p .path) removed) (whole-only (λ f ts. (isTruth true f ≡ true) × (ts ≡ [])) removed (truth-gone true) (p .path)) t)
   stepped-step (live t top) (splitc p names) =
       let k : Formula → Outcome ℕ Theory = λ f. provided (climbing top names) 11 >> wholeOnly (p .path) (split names) f in
       let Q : Formula → Theory → Type 0 = λ f ts. (climbing top names ≡ true) × ((p .path ≡ []) × Conjunction names f ts) in
@@ -193,7 +190,7 @@ module _ (P : Problem) where
       let Q : Formula → Theory → Type 0 = λ f ts. (p .path ≡ []) × ((isTruth false f ≡ true) × (ts ≡ [])) in
       allowed-bind (Placed Q (p .name) t) (Step P (live t top) (unsat p)) (λ u. done (ended (p .name) top)) (λ u w. closed (p .name) top t u (p .path) w)
       (inPlace (p .name) (wholeOnly (p .path) refuted) t)
-      (in-place Q (p .name) (wholeOnly (p .path) refuted) (whole-only (λ f ts. (isTruth false f ≡ true) × (ts ≡ [])) refuted truth-refuted (p .path)) t)
+      (in-place Q (p .name) (wholeOnly (p .path) refuted) (whole-only (λ f ts. (isTruth false f ≡ true) × (ts ≡ [])) refuted (truth-gone false) (p .path)) t)
   stepped-step (ended m top) (rewrite r p) =
       let k : Formula → Outcome ℕ Theory = λ f. mapped (λ h. entry (p .name) h ∷ []) (at (p .path) (λ f. refused 13) f) in
       blocked (Step P (ended m top) (rewrite r p)) (p .name) k

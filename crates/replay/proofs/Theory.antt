@@ -5,9 +5,10 @@ use mathlib.Core.Path.{_≡_, refl, sym, ap, _∙_}
 use mathlib.Core.List.{List, [], _∷_, _++_, map-append}
 use mathlib.Core.Bool.{Bool, _&&_, and-assoc}
 use lib.ListN.{length, length-map}
-use Rattle.text.proofs.Laws.{Each}
+use Rattle.text.proofs.Laws.{Each, each-append}
 use Rattle.logic.specs.Formula.{Formula, Formulas, noParts, part, all}
 use Rattle.logic.specs.Meaning.{Structure, nowhere, holds, truths, joinAll, satisfies}
+use Rattle.formula.proofs.memory.Entries.{each-left, each-right}
 use Rattle.replay.specs.Theory.{Entry, Theory, formulasOf, namesOf}
 use Rattle.replay.specs.Steps.{Named, nobody, somebody}
 
@@ -16,18 +17,29 @@ abbrev pub EachPart : (Formula → Type 0) → Formulas → Type 0
 EachPart Q noParts = Unit {0}
 EachPart Q (part f fs) = Q f × EachPart Q fs
 
+pub formulas-append : (t u : Theory) → formulasOf (t ++ u) ≡ formulasOf t ++ formulasOf u
+formulas-append t u = map-append (λ (e : Entry). e .formula) t u
+
 module _ (Q : Formula → Type 0) where
-  pub each-append : (t u : Theory) → Each Q (formulasOf t) → Each Q (formulasOf u) → Each Q (formulasOf (t ++ u))
-  each-append [] u p q = q
-  each-append (e ∷ es) u p q = (p .0, each-append es u (p .1) q)
+  -- other formulas in the same place
+  pub each-around : (before t u after : Theory) → (Each Q (formulasOf t) → Each Q (formulasOf u)) → Each Q (formulasOf (before ++ (t ++ after)))
+      → Each Q (formulasOf (before ++ (u ++ after)))
+  each-around before t u after h q =
+      let (b, m) = apart before (t ++ after) q in
+      let (p, a) = apart t after m in
+      together before (u ++ after) b (together u after (h p) a)
+    where
+      apart : (t u : Theory) → Each Q (formulasOf (t ++ u)) → Each Q (formulasOf t) × Each Q (formulasOf u)
+      apart t u p =
+          let q = rw (formulas-append t u) at p in
+          (each-left Q (formulasOf t) (formulasOf u) q, each-right Q (formulasOf t) (formulasOf u) q)
 
-  pub each-front : (t u : Theory) → Each Q (formulasOf (t ++ u)) → Each Q (formulasOf t)
-  each-front [] u p = tt
-  each-front (e ∷ es) u p = (p .0, each-front es u (p .1))
+      together : (t u : Theory) → Each Q (formulasOf t) → Each Q (formulasOf u) → Each Q (formulasOf (t ++ u))
+      together t u p q = rw (formulas-append t u) (each-append Q (formulasOf t) (formulasOf u) p q)
 
-  pub each-back : (t u : Theory) → Each Q (formulasOf (t ++ u)) → Each Q (formulasOf u)
-  each-back [] u p = p
-  each-back (e ∷ es) u p = each-back es u (p .1)
+  -- the formula in a place
+  pub each-at : (before after : Theory) (e : Entry) → Each Q (formulasOf (before ++ (e ∷ after))) → Q (e .formula)
+  each-at before after e q = each-right Q (formulasOf before) (formulasOf (e ∷ after)) (rw (formulas-append before (e ∷ after)) at q) .0
 
   pub each-named : (ns : List ℕ) (fs : Formulas) (ts : Theory) → Named ns fs ts → EachPart Q fs → Each Q (formulasOf ts)
   each-named ns fs ts nobody p = tt
@@ -49,8 +61,6 @@ module _ (S : Structure) where
   unfolding truths
   satisfies-named ns fs ts nobody = refl
   satisfies-named ns fs ts (somebody n ms f hs us w) = ap (λ (b : Bool). holds S nowhere f && b) (satisfies-named ms hs us w)
-
--- The names and formulas of a theory.
 
 pub names-append : (t u : Theory) → namesOf (t ++ u) ≡ namesOf t ++ namesOf u
 names-append t u = map-append (λ (e : Entry). e .name) t u

@@ -4,13 +4,13 @@
 use Prim.Native.Nat.{ℕ, _+_, _≤_, _<_}
 use native.Mathlib.Nat.{zero-add}
 use native.Mathlib.Omega.{arith}
-use mathlib.Core.Path.{_≡_, refl, sym, ap, ap₂, subst, _∙_}
+use mathlib.Core.Path.{_≡_, refl, sym, ap, ap₂, _∙_}
 use mathlib.Core.List.{List, [], _∷_, _++_}
 use mathlib.Core.Bool.{Bool, true, false, _&&_, and-true}
 use lib.Dec.{leb}
 use lib.ListN.{length, getD, take, drop, length-append}
 use lib.Seq.{sets-eq, take-at}
-use borrow.Author.Tests.{leb-true, lt-leb, le-leb}
+use borrow.Author.Tests.{leb-true}
 use Rattle.text.specs.Sizes.{variableCount, guardQuantifierCount, formulaCount, theorySize}
 use Rattle.text.specs.Bytes.{Bytes}
 use Rattle.text.specs.Outcome.{done, refused}
@@ -23,42 +23,22 @@ use Rattle.text.specs.memory.Table.{indexed}
 use Rattle.text.proofs.Laws.{and-left, and-right}
 use Rattle.logic.specs.Formula.{Formula, partsOf, size}
 use Rattle.logic.specs.Limits.{differentCount, namesShort, guardQuantifiers, theoryVariables, guardsFit, sizeTotal, sizesFit, limitsFit}
-use Rattle.formula.specs.memory.Words.{words, allWords}
+use Rattle.formula.specs.memory.Words.{allWords}
 use Rattle.formula.specs.memory.NameTable.{extendedBy, indexIn, namesIn, listFits}
 use Rattle.formula.specs.memory.Entries.{Memory}
-use Rattle.formula.specs.memory.TheoryLines.{readLine, LineFound, ToldLine}
-use Rattle.formula.specs.declared.theory_line.LineRead.{LineRead}
-use Rattle.formula.specs.declared.theory_line.LineRead.the-variants as line
-use Rattle.formula.proofs.memory.Words.{words-size}
+use Rattle.formula.specs.memory.TheoryLines.{readLine, LineFound}
+use Rattle.formula.proofs.memory.Words.{allWords-sizes}
 use Rattle.formula.proofs.memory.Variables.{fits-variables}
 use Rattle.formula.proofs.memory.TheoryLines.{line-then, TheoryEntered, theory-none, theory-more}
-use Rattle.replay.specs.Theory.{theoryLine, theoryOf}
+use Rattle.replay.specs.TheoryText.{theoryLine, theoryOf}
 use Rattle.text.specs.memory.Going.{Going}
 use Rattle.replay.specs.memory.TheoryReads.{totalsFit, TheoryFound}
-use Rattle.replay.proofs.Ground.{sizeTotal-append}
+use Rattle.replay.proofs.Ground.{sizeTotal-append, sizes-total}
 use Rattle.text.proofs.Going.{going-first, going-on, going-refused, going-end}
 
 -- The totals.
 
 module _ (full count guarded : ℕ) (names : List Name) where
-  pub totals-large : 4096 < full → false ≡ totalsFit full count guarded names
-  unfolding theorySize
-  totals-large h = rw (lt-leb full 4096 h)
-
-  module _ (few : full ≤ 4096) where
-    pub totals-many : 1024 < count → false ≡ totalsFit full count guarded names
-    unfolding theorySize formulaCount
-    totals-many h = rw (le-leb full 4096 few, lt-leb count 1024 h)
-
-    module _ (small : count ≤ 1024) where
-      pub totals-guarded : 3 < guarded → false ≡ totalsFit full count guarded names
-      unfolding theorySize formulaCount guardQuantifierCount
-      totals-guarded h = rw (le-leb full 4096 few, le-leb count 1024 small, lt-leb guarded 3 h)
-
-      pub totals-names : guarded ≤ 3 → listFits names ≡ totalsFit full count guarded names
-      unfolding theorySize formulaCount guardQuantifierCount
-      totals-names h = rw (le-leb full 4096 few, le-leb count 1024 small, le-leb guarded 3 h)
-
   pub totals-small : totalsFit full count guarded names ≡ true → (full ≤ 4096) × (count ≤ 1024)
   unfolding theorySize formulaCount
   totals-small e =
@@ -105,11 +85,6 @@ limits-names fs e =
     ap₂ _&&_ (and-left (leb (differentCount (theoryVariables fs)) variableCount) _ rest)
     (and-left (namesShort (theoryVariables fs)) _ (and-right (leb (differentCount (theoryVariables fs)) variableCount) _ rest))
 
-words-long : (ix px : Name → ℕ) (fs : List Formula) → length (allWords ix px (partsOf fs)) ≡ sizeTotal fs
-unfolding words
-words-long ix px [] = refl
-words-long ix px (f ∷ fs) = rw (length-append, words-size ix px f, words-long ix px fs)
-
 -- The lines.
 
 -- a line does what its reader tells, and then 9
@@ -118,14 +93,6 @@ theory-line : (P : Problem) (fs : List Formula) (s : Bytes)
     ≡ (outcome._>>=_ (readLine P s) λ p. reading._>>_ (require 9 (limitsFit (fs ++ (p .0 ∷ [])))) (give (fs ++ (p .0 ∷ []))) (p .1))
 unfolding theoryLine
 theory-line P fs s = line-then P (λ f. reading._>>_ (require 9 (limitsFit (fs ++ (f ∷ [])))) (give (fs ++ (f ∷ [])))) s
-
--- what the reader of a line tells, by its answer
-module _ (P : Problem) (text : Bytes) (index : Name → ℕ) (at : ℕ) (old : Memory) (to : ℕ) (new : Memory) (r : LineRead) (t : ToldLine P text index at old to r new) where
-  pub line-done : (next extent guarded : ℕ) → r ≡ line.Done next extent guarded → LineFound P text index at old to next extent guarded new
-  line-done next extent guarded e = subst (λ q. ToldLine P text index at old to q new) e t
-
-  pub line-refused : (number : ℕ) → r ≡ line.Refused number → readLine P (drop at text) ≡ refused number
-  line-refused number e = subst (λ q. ToldLine P text index at old to q new) e t
 
 -- the formulas read so far, and what is left from a place on
 pub record TheoryGoing (P : Problem) (text : Bytes) (index : Name → ℕ) (old : Memory) (at count full : ℕ) (new : Memory) : Type 0 where
@@ -154,65 +121,67 @@ module _ (P : Problem) (text : Bytes) (index : Name → ℕ) (old : Memory) wher
         entered = theory-none text index old 0;
       }
 
-  module _ (empty : namesIn text (old .names) ≡ []) (at count full : ℕ) (mid : Memory) (g : TheoryGoing P text index old at count full mid) where
-    module _ (more : at < length text) where
-      pub theory-refused : (number : ℕ) → readLine P (drop at text) ≡ refused number → theoryOf P text ≡ refused (refusal number 2 (count + 1))
-      theory-refused number e =
-          going-refused 2 (theoryLine P) done text (theoryOf P text) at (count + 1) (g .formulas) (g .going) more number
-          (theory-line P (g .formulas) (drop at text) ∙ rw e)
+-- from those formulas on
+module _ {P : Problem} {text : Bytes} {index : Name → ℕ} {old : Memory} (empty : namesIn text (old .names) ≡ []) {at count full : ℕ} {mid : Memory}
+    (g : TheoryGoing P text index old at count full mid) where
+  module _ (more : at < length text) where
+    pub theory-refused : (number : ℕ) → readLine P (drop at text) ≡ refused number → theoryOf P text ≡ refused (refusal number 2 (count + 1))
+    theory-refused number e =
+        going-refused 2 (theoryLine P) done text (theoryOf P text) at (count + 1) (g .formulas) (g .going) more number
+        (theory-line P (g .formulas) (drop at text) ∙ rw e)
 
-      module _ (next extent guarded : ℕ) (new : Memory) (f : LineFound P text index at mid full next extent guarded new) where
-        abbrev later : List Formula
-        later = g .formulas ++ (f .formula ∷ [])
+    module _ {next extent guarded : ℕ} {new : Memory} (f : LineFound P text index at mid full next extent guarded new) where
+      abbrev later : List Formula
+      later = g .formulas ++ (f .formula ∷ [])
 
-        entered-more : TheoryEntered text index old 0 later new
-        entered-more =
-            theory-more text index old 0 (g .formulas) mid (g .entered) (f .formula) new
-            (rw (g .measured, ← zero-add (sizeTotal (g .formulas))) at (f .entered))
+      entered-more : TheoryEntered text index old 0 later new
+      entered-more =
+          theory-more text index old 0 (g .formulas) mid (g .entered) (f .formula) new
+          (rw (g .measured, ← zero-add (sizeTotal (g .formulas))) at (f .entered))
 
-        totals : limitsFit later ≡ totalsFit (full + extent) (count + 1) guarded (namesIn text (new .names))
-        totals =
-            limits-more (g .formulas) (f .formula) (g .fits)
-            ∙ rw (g .measured, g .counted, f .measured, f .counted, entered-more .names, empty)
+      totals : limitsFit later ≡ totalsFit (full + extent) (count + 1) guarded (namesIn text (new .names))
+      totals =
+          limits-more (g .formulas) (f .formula) (g .fits)
+          ∙ rw (g .measured, g .counted, f .measured, f .counted, entered-more .names, empty)
 
-        read : (b : Bool) → limitsFit later ≡ b
-            → theoryLine P (g .formulas) (drop at text) ≡ reading._>>_ (require 9 b) (give later) (drop next text)
-        read b e = theory-line P (g .formulas) (drop at text) ∙ rw (f .is, e)
+      read : (b : Bool) → limitsFit later ≡ b
+          → theoryLine P (g .formulas) (drop at text) ≡ reading._>>_ (require 9 b) (give later) (drop next text)
+      read b e = theory-line P (g .formulas) (drop at text) ∙ rw (f .is, e)
 
-        pub theory-over : totalsFit (full + extent) (count + 1) guarded (namesIn text (new .names)) ≡ false → theoryOf P text ≡ refused (refusal 9 2 (count + 1))
-        theory-over e =
-            going-refused 2 (theoryLine P) done text (theoryOf P text) at (count + 1) (g .formulas) (g .going) more 9 (read false (totals ∙ e))
+      pub theory-over : totalsFit (full + extent) (count + 1) guarded (namesIn text (new .names)) ≡ false → theoryOf P text ≡ refused (refusal 9 2 (count + 1))
+      theory-over e =
+          going-refused 2 (theoryLine P) done text (theoryOf P text) at (count + 1) (g .formulas) (g .going) more 9 (read false (totals ∙ e))
 
-        pub theory-on : totalsFit (full + extent) (count + 1) guarded (namesIn text (new .names)) ≡ true → TheoryGoing P text index old next (count + 1) (full + extent) new
-        theory-on e =
-            record {
-              formulas = later;
-              going = going-on 2 (theoryLine P) done text (theoryOf P text) at (count + 1) (g .formulas) (g .going) more next later (read true (totals ∙ e))
-                  (omega (arith, f .after)) (f .within);
-              counted = rw (g .counted) (sym (length-more (g .formulas) (f .formula)));
-              measured = rw (g .measured, f .measured) (sym (size-more (g .formulas) (f .formula)));
-              fits = totals ∙ e;
-              entered = entered-more;
-            }
+      pub theory-on : totalsFit (full + extent) (count + 1) guarded (namesIn text (new .names)) ≡ true → TheoryGoing P text index old next (count + 1) (full + extent) new
+      theory-on e =
+          record {
+            formulas = later;
+            going = going-on 2 (theoryLine P) done text (theoryOf P text) at (count + 1) (g .formulas) (g .going) more next later (read true (totals ∙ e))
+                (omega (arith, f .after)) (f .within);
+            counted = rw (g .counted) (sym (length-more (g .formulas) (f .formula)));
+            measured = rw (g .measured, f .measured) (sym (size-more (g .formulas) (f .formula)));
+            fits = totals ∙ e;
+            entered = entered-more;
+          }
 
-    -- the words stand at the front
-    stored-front : full ≤ length (old .work) → take full (mid .work) ≡ allWords (indexIn (namesIn text (mid .names))) index (partsOf (g .formulas))
-    stored-front room =
-        let all = allWords (indexIn (namesIn text (mid .names))) index (partsOf (g .formulas)) in
-        let long : length all ≡ full = words-long (indexIn (namesIn text (mid .names))) index (g .formulas) ∙ sym (g .measured) in
-        ap (take full) (g .entered .work refl ∙ sets-eq all (old .work) 0 (omega arith))
-        ∙ take-at all (drop (0 + length all) (old .work)) full long
+  -- the words stand at the front
+  stored-front : full ≤ length (old .work) → take full (mid .work) ≡ allWords (indexIn (namesIn text (mid .names))) index (partsOf (g .formulas))
+  stored-front room =
+      let all = allWords (indexIn (namesIn text (mid .names))) index (partsOf (g .formulas)) in
+      let long : length all ≡ full = allWords-sizes (indexIn (namesIn text (mid .names))) index (partsOf (g .formulas)) ∙ sizes-total (g .formulas) ∙ sym (g .measured) in
+      ap (take full) (g .entered .work refl ∙ sets-eq all (old .work) 0 (omega arith))
+      ∙ take-at all (drop (0 + length all) (old .work)) full long
 
-    pub theory-end : length text ≤ at → full ≤ length (old .work) → TheoryFound P text index count full (mid .names) (mid .work)
-    theory-end h room =
-        let listed : namesIn text (mid .names) ≡ extendedBy [] (theoryVariables (g .formulas)) = g .entered .names ∙ rw empty in
-        record {
-          formulas = g .formulas;
-          is = going-end 2 (theoryLine P) done text (theoryOf P text) at (count + 1) (g .formulas) (g .going) h;
-          counted = g .counted;
-          measured = g .measured;
-          fits = g .fits;
-          listed = listed;
-          short = ap listFits listed ∙ fits-variables (theoryVariables (g .formulas)) ∙ limits-names (g .formulas) (g .fits);
-          stored = stored-front room;
-        }
+  pub theory-end : length text ≤ at → full ≤ length (old .work) → TheoryFound P text index count full (mid .names) (mid .work)
+  theory-end h room =
+      let listed : namesIn text (mid .names) ≡ extendedBy [] (theoryVariables (g .formulas)) = g .entered .names ∙ rw empty in
+      record {
+        formulas = g .formulas;
+        is = going-end 2 (theoryLine P) done text (theoryOf P text) at (count + 1) (g .formulas) (g .going) h;
+        counted = g .counted;
+        measured = g .measured;
+        fits = g .fits;
+        listed = listed;
+        short = ap listFits listed ∙ fits-variables (theoryVariables (g .formulas)) ∙ limits-names (g .formulas) (g .fits);
+        stored = stored-front room;
+      }

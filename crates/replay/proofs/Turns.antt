@@ -10,29 +10,26 @@ use Rattle.text.specs.Bytes.{Bytes}
 use Rattle.text.specs.Outcome.{done, refused}
 use Rattle.text.specs.Reading.{Reader}
 use Rattle.text.specs.Lines.{refusal}
-use Rattle.text.specs.Derivation.{RuleLine, rewrite, unsat, trivial, splitc, step, footer, readLine, readVersion, readGrounder}
+use Rattle.text.specs.Derivation.{RuleLine, step, footer, readLine, readVersion, readGrounder}
 use Rattle.text.specs.memory.Found.{Taken, Refused}
 use Rattle.text.specs.memory.Numbers.{numbersAt}
-use Rattle.text.specs.memory.RuleLines.{ruleOf, positionAt, EndFound, ToldEnd, ToldLine as ToldText}
-use Rattle.text.specs.declared.rule_line.Ended.{Ended}
+use Rattle.text.specs.memory.RuleLines.{ruleOf, EndFound}
 use Rattle.text.specs.declared.table.Table.{Table}
 use Rattle.text.specs.declared.rule_line.Rule.{Rule as RuleName}
 use Rattle.text.specs.declared.rule_line.Rule.the-variants.{Snand, Snor, Stn, Epred, Eprop, Iq}
-use Rattle.text.specs.declared.rule_line.LineRead.{LineRead}
 use Rattle.replay.specs.Replay.{Place, top, heading, among, bottom, wholeDerivation, derivationLine, derivationFrom}
-use Rattle.replay.specs.memory.Held.{Held, rewrittenIn, removedIn, splitIn, refutedIn, ruleName, steppedIn}
+use Rattle.replay.specs.memory.Held.{Held, ruleName, steppedIn}
 use Rattle.replay.specs.memory.Steps.{rowsIn, heldIn, Few, ToldStep}
-use Rattle.replay.specs.memory.Lines.{JudgedIn, lineIn, GoingIn, ToldLine, Finished, ToldReplayed, movedBy}
+use Rattle.replay.specs.memory.Lines.{JudgedIn, lineIn, GoingIn, ToldLine, Finished, movedBy}
 use Rattle.replay.specs.declared.live.Live.{Live}
 use Rattle.replay.specs.declared.live.Layout.{Layout}
 use Rattle.replay.specs.declared.live.Step.{Step}
 use Rattle.replay.specs.declared.live.Step.the-variants as step-of
-use Rattle.replay.specs.declared.replaying.Moved.{Moved as MovedRead}
 use Rattle.replay.specs.declared.replaying.Moved.the-variants as moved
-use Rattle.replay.specs.declared.replaying.Replayed.{Replayed as ReplayedRead}
 use Rattle.text.proofs.Going.{going-first, going-on, going-refused, going-end, going-stuck}
 
-name-rule : (rule : RuleName) → ruleName (ruleOf rule) ≡ rule
+-- the rule that a line names, as the code has it
+pub name-rule : (rule : RuleName) → ruleName (ruleOf rule) ≡ rule
 name-rule Snand = refl
 name-rule Snor = refl
 name-rule Stn = refl
@@ -40,52 +37,25 @@ name-rule Epred = refl
 name-rule Eprop = refl
 name-rule Iq = refl
 
--- what is told of a line of the text, by what it is
-pub told-text : (text : Bytes) (at : ℕ) (r other : LineRead) → r ≡ other → ToldText readLine text at r → ToldText readLine text at other
-told-text text at r other e t = subst (ToldText readLine text at) e t
-
-module _ (table : Table) (rows : List ℕ) (first : Held) (layout : Layout) (old : List ℕ) (m : Held) (text : Bytes) (at line told : ℕ) (same : told ≡ line) where
+module _ (table : Table) (first : Held) (layout : Layout) (old : List ℕ) (m : Held) {text : Bytes} {at line told : ℕ} (same : told ≡ line) where
   -- a rule line is read, and done or refused as what it does to memory is
-  stepped-line : (l : RuleLine) (next : ℕ) → Taken readLine text at (step l) next → rowsIn layout old ≡ rows
-      → (r : Step) (work : List ℕ) → ToldStep (steppedIn table rows m l) layout old r work → ToldLine table rows first layout old m text at line (movedBy r next told) work
+  pub stepped-line : {l : RuleLine} {next : ℕ} → Taken readLine text at (step l) next → (r : Step) (work : List ℕ) → ToldStep (steppedIn table (rowsIn layout old) m l) layout old r work
+      → ToldLine table (rowsIn layout old) first layout old m text at line (movedBy r next told) work
   unfolding derivationLine
-  stepped-line l next t kept (step-of.Done live) work s =
-      (record { is = λ rules. rw (t .is, s .is); after = t .after; within = t .within }, (s .few, s .rows ∙ kept))
-  stepped-line l next t kept (step-of.Refused number) work s = ((λ rules. rw (t .is, s)), same)
+  stepped-line t (step-of.Done live) work s = (record { is = λ rules. rw (t .is, s .is); after = t .after; within = t .within }, (s .few, s .rows))
+  stepped-line t (step-of.Refused number) work s = ((λ rules. rw (t .is, s)), same)
 
-  module _ (kept : rowsIn layout old ≡ rows) (next : ℕ) (r : Step) (work : List ℕ) where
-    pub rewritten-line : (rule : RuleName) (name path steps : ℕ) → Taken readLine text at (step (rewrite (ruleOf rule) (positionAt text name path steps))) next
-        → ToldStep (rewrittenIn table rows m rule (positionAt text name path steps)) layout old r work → ToldLine table rows first layout old m text at line (movedBy r next told) work
-    unfolding steppedIn
-    rewritten-line rule name path steps t s =
-        stepped-line (rewrite (ruleOf rule) (positionAt text name path steps)) next t kept r work (rw (name-rule rule) s)
-
-    pub refuted-line : (name path steps : ℕ) → Taken readLine text at (step (unsat (positionAt text name path steps))) next
-        → ToldStep (refutedIn m (positionAt text name path steps)) layout old r work → ToldLine table rows first layout old m text at line (movedBy r next told) work
-    unfolding steppedIn
-    refuted-line name path steps t s = stepped-line (unsat (positionAt text name path steps)) next t kept r work s
-
-    pub removed-line : (name path steps : ℕ) → Taken readLine text at (step (trivial (positionAt text name path steps))) next
-        → ToldStep (removedIn m (positionAt text name path steps)) layout old r work → ToldLine table rows first layout old m text at line (movedBy r next told) work
-    unfolding steppedIn
-    removed-line name path steps t s = stepped-line (trivial (positionAt text name path steps)) next t kept r work s
-
-    pub split-line : (name path steps names many : ℕ) → Taken readLine text at (step (splitc (positionAt text name path steps) (numbersAt text names many))) next
-        → ToldStep (splitIn m (positionAt text name path steps) (numbersAt text names many)) layout old r work → ToldLine table rows first layout old m text at line (movedBy r next told) work
-    unfolding steppedIn
-    split-line name path steps names many t s =
-        stepped-line (splitc (positionAt text name path steps) (numbersAt text names many)) next t kept r work s
-
-  pub footer-line : (names many next : ℕ) → Taken readLine text at (footer (numbersAt text names many)) next → names + many ≤ next → ToldLine table rows first layout old m text at line (moved.Footer names many next) old
+  pub footer-line : (names many : ℕ) {next : ℕ} → Taken readLine text at (footer (numbersAt text names many)) next → names + many ≤ next
+      → ToldLine table (rowsIn layout old) first layout old m text at line (moved.Footer names many next) old
   unfolding derivationLine
-  footer-line names many next t near = (record { is = λ rules. rw (t .is); after = t .after; within = t .within }, (near, refl))
+  footer-line names many t near = (record { is = λ rules. rw (t .is); after = t .after; within = t .within }, (near, refl))
 
-  pub malformed-line : Refused 10 readLine text at → (work : List ℕ) → ToldLine table rows first layout old m text at line (moved.Refused 10 told) work
+  pub malformed-line : Refused 10 readLine text at → (work : List ℕ) → ToldLine table (rowsIn layout old) first layout old m text at line (moved.Refused 10 told) work
   unfolding derivationLine
   malformed-line t work = ((λ rules. rw (t .is)), same)
 
 -- The derivation from a line on.
-module _ (table : Table) (rows : List ℕ) (first : Held) (layout : Layout) (old : List ℕ) (whole : JudgedIn) (text : Bytes) (at rules : ℕ) (m : Held)
+module _ (table : Table) (rows : List ℕ) (first : Held) (layout : Layout) (old : List ℕ) {whole : JudgedIn} {text : Bytes} {at rules : ℕ} {m : Held}
     (going : GoingIn table rows first whole text at (rules + 3) (among m rules)) where
   abbrev line : Place Held → Reader (Place Held)
   line = lineIn table rows first
@@ -121,12 +91,6 @@ module _ (table : Table) (rows : List ℕ) (first : Held) (layout : Layout) (old
       pub lines-whole : length text ≤ next → whole ≡ done (record { last = m; rules = rules; final = numbersAt text names many })
       lines-whole h = going-end 3 line wholeDerivation text whole next (rules + 3 + 1) (bottom m rules (numbersAt text names many)) closed h
 
--- what is told of a line, by its answer, and with rows that are the same
-pub told-line : (table : Table) (rows others : List ℕ) → rows ≡ others → (first : Held) (layout : Layout) (old : List ℕ) (m : Held) (text : Bytes) (at line : ℕ) (r other : MovedRead) → r ≡ other
-    → (work : List ℕ) → ToldLine table rows first layout old m text at line r work → ToldLine table others first layout old m text at line other work
-told-line table rows others e first layout old m text at line r other f work t =
-    subst (λ (q : MovedRead). ToldLine table others first layout old m text at line q work) f (subst (λ (s : List ℕ). ToldLine table s first layout old m text at line r work) e t)
-
 -- The heading.
 module _ (table : Table) (rows : List ℕ) (m : Held) (text : Bytes) where
   abbrev judged : JudgedIn
@@ -157,18 +121,9 @@ module _ (table : Table) (rows : List ℕ) (m : Held) (text : Bytes) where
         let t = grounder .taken in
         going-on 3 (lineIn table rows m) wholeDerivation text judged at 2 heading headed (omega (arith, t .after, t .within)) next (among m 0) (rw (t .is)) (t .after) (t .within)
 
--- what is told of a heading's line, by its answer
-pub told-end : {A : Type 0} (reader : Reader A) (text : Bytes) (at : ℕ) (r other : Ended) → r ≡ other → ToldEnd reader text at r → ToldEnd reader text at other
-told-end reader text at r other e t = subst (ToldEnd reader text at) e t
-
 -- the footer is read, and memory is as it was
 pub lines-finished : (whole : JudgedIn) (layout : Layout) (rows : List ℕ) (text : Bytes) (live : Live) (rules names many : ℕ) (old work : List ℕ) → work ≡ old
     → whole ≡ done (record { last = heldIn layout live old; rules = rules; final = numbersAt text names many }) → Few live → rowsIn layout old ≡ rows → names + many ≤ length text
     → rules ≤ length text → Finished whole layout rows text live rules names many work
 lines-finished whole layout rows text live rules names many old work same e few kept near counted =
     record { is = e ∙ rw same; few = few; kept = rw same kept; near = near; counted = counted }
-
--- what is told of a derivation, by its answer
-pub told-replayed : (outcome : JudgedIn) (layout : Layout) (rows : List ℕ) (text : Bytes) (r other : ReplayedRead) → r ≡ other → (work : List ℕ)
-    → ToldReplayed outcome layout rows text r work → ToldReplayed outcome layout rows text other work
-told-replayed outcome layout rows text r other e work t = subst (λ (q : ReplayedRead). ToldReplayed outcome layout rows text q work) e t

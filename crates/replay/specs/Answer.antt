@@ -9,8 +9,9 @@ use Rattle.text.specs.Bytes.{Bytes, same}
 use Rattle.text.specs.Outcome.{done, refused, provided, _>>=_, _>>_}
 use Rattle.text.specs.Lines.{refusal, Judged, isLF}
 use Rattle.text.specs.Problem.{problemOf}
-use Rattle.replay.specs.Theory.{theoryOf}
-use Rattle.replay.specs.Replay.{Ground, groundText, groundOf, derivationOf}
+use Rattle.replay.specs.TheoryText.{theoryOf}
+use Rattle.replay.specs.Ground.{Ground, groundText, groundOf}
+use Rattle.replay.specs.Replay.{derivationOf}
 
 -- 1, 2 and 18 name no file and no line
 abbrev pub enough : List ℕ → Judged (Unit {0})

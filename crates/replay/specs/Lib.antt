@@ -1,6 +1,8 @@
+pub mod TheoryText
 pub mod Theory
 pub mod Steps
 pub mod Replay
+pub mod Ground
 pub mod Answer
 pub mod Accepted
 pub mod memory

@@ -1,38 +1,15 @@
--- The theory's text and names; the rule lines on it, with 11 to 15.
+-- The theory's names; the rule lines on it, with 11 to 15.
 use Prim.Native.Nat.{ℕ, suc}
 use mathlib.Core.List.{List, [], _∷_, _++_, map}
 use mathlib.Core.Bool.{Bool, true, false, cond, _&&_}
 use lib.Dec.{eqb, ltb}
 use lib.ListN.{length}
-use Rattle.text.specs.Sizes.{levelCount}
-use Rattle.text.specs.Bytes.{Bytes, bytes}
 use Rattle.text.specs.Outcome.{Outcome, done, refused, mapped, provided, _>>=_, _>>_}
-use Rattle.text.specs.Reading.{Reader, give, require, word}
-use Rattle.text.specs.Reading as reading
-use Rattle.text.specs.Lines.{Judged, readText}
 use Rattle.text.specs.Problem.{Problem}
 use Rattle.text.specs.Derivation.{RuleLine, rewrite, unsat, trivial, splitc}
 use Rattle.logic.specs.Formula.{Formula, truth, Formulas, noParts, part, Side, all, any}
-use Rattle.logic.specs.Reading.{readFormula}
-use Rattle.logic.specs.Names.{namesFit}
-use Rattle.logic.specs.Normal.{isGNF}
-use Rattle.logic.specs.Limits.{limitsFit, sizesFit}
+use Rattle.logic.specs.Limits.{sizesFit}
 use Rattle.logic.specs.Rules.{onJunction, isTruth, apply, at}
-
--- Its text: one formula a line, with 5 to 9.
-
-unfoldable pub theoryLine : Problem → List Formula → Reader (List Formula)
-theoryLine P fs =
-    reading._>>=_ (readFormula levelCount) λ f.  -- 5, 6
-    reading._>>_ (word 5 (bytes "\n"))  -- 5
-    (reading._>>_ (require 7 (namesFit P f))
-    (reading._>>_ (require 8 (isGNF P f))
-    (reading._>>_ (require 9 (limitsFit (fs ++ (f ∷ []))))
-    (give (fs ++ (f ∷ []))))))
-
--- the theory that a text is
-unfoldable pub theoryOf : Problem → Bytes → Judged (List Formula)
-theoryOf P s = readText 2 (theoryLine P) done [] s
 
 -- Named formulas.
 

@@ -5,7 +5,7 @@ use formula::store::copy_back;
 use formula::store::without_word;
 ghost use Prim.Native.Nat.{_+_, _≤_, _<_};
 ghost use mathlib.Core.List.{[]};
-ghost use lib.ListN.{length, take};
+ghost use lib.ListN.{take};
 ghost use Rattle.formula.specs.memory.Storing.{spliced};
 ghost use Rattle.formula.specs.memory.Rewriting.{endWithin, rewrittenWords};
 ghost use Rattle.replay.specs.memory.Steps.{Roomy, Fronted};

@@ -13,12 +13,11 @@ use text::rule_line::grounder_end;
 use text::rule_line::version_end;
 use text::table::Table;
 ghost use mathlib.Core.Path.{_≡_};
-ghost use mathlib.Core.List.{List};
 ghost use Prim.Native.Nat.{_≤_, _<_};
 ghost use lib.ListN.{length};
 ghost use Rattle.replay.specs.Replay.{among, derivationFrom};
 ghost use Rattle.replay.specs.memory.Held.{Held, steppedIn};
-ghost use Rattle.replay.specs.memory.Steps.{rowsIn, heldIn, Arranged, Few, ToldStep};
+ghost use Rattle.replay.specs.memory.Steps.{rowsIn, heldIn, Arranged, Few};
 ghost use Rattle.replay.specs.memory.Lines.{JudgedIn, GoingIn, ToldLine, ToldReplayed, movedBy};
 
 // What a derivation comes to: the live formulas, the count of rule lines and the footer's names; or a number and a line.

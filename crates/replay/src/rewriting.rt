@@ -14,7 +14,7 @@ use formula::decide::rule_fit;
 use text::rule_line::Rule;
 use text::table::Table;
 ghost use mathlib.Core.Path.{_≡_};
-ghost use Prim.Native.Nat.{_+_, _≤_, _<_};
+ghost use Prim.Native.Nat.{_≤_, _<_};
 ghost use lib.ListN.{length, take, drop};
 ghost use Rattle.text.specs.memory.RuleLines.{positionAt};
 ghost use Rattle.formula.specs.declared.decide.Fit.the-variants.{Quantifier};

@@ -8,7 +8,7 @@ use Rattle.text.specs.Sizes.{textSize}
 use Rattle.text.specs.Bytes.{Bytes, same}
 use Rattle.text.specs.Outcome.{done, provided, _>>=_, _>>_}
 use Rattle.text.specs.Lines.{Judged, refusal}
-use Rattle.replay.specs.Replay.{Ground, groundText}
+use Rattle.replay.specs.Ground.{Ground, groundText}
 use Rattle.replay.specs.Answer.{enough, short, room, differenceLine, grounded, answerOf, outputAfter}
 use Rattle.replay.specs.Answer as told
 use Rattle.replay.specs.declared.job.Answer.{Answer}

@@ -10,7 +10,8 @@ use Rattle.text.specs.Lines.{Judged, refusal}
 use Rattle.text.specs.declared.table.Table.{Table}
 use Rattle.logic.specs.Meaning.{countFrom}
 use Rattle.formula.specs.memory.ClauseText.{clauseLines}
-use Rattle.replay.specs.Replay.{Replayed, derivationFrom, Ground, groundText}
+use Rattle.replay.specs.Replay.{Replayed, derivationFrom}
+use Rattle.replay.specs.Ground.{Ground, groundText}
 use Rattle.replay.specs.memory.Held.{Held, held, steppedIn, endIn}
 use Rattle.replay.specs.memory.Steps.{rowsIn, heldIn, Few}
 use Rattle.replay.specs.memory.Lines.{JudgedIn}

@@ -14,7 +14,7 @@ use Rattle.logic.specs.Formula.{Formula, partsOf}
 use Rattle.logic.specs.Limits.{theoryVariables, sizeTotal, limitsFit}
 use Rattle.formula.specs.memory.Words.{allWords}
 use Rattle.formula.specs.memory.NameTable.{extendedBy, indexIn, namesIn, listFits}
-use Rattle.replay.specs.Theory.{theoryOf}
+use Rattle.replay.specs.TheoryText.{theoryOf}
 use Rattle.replay.specs.declared.theory_reader.TheoryRead.{TheoryRead}
 use Rattle.replay.specs.declared.theory_reader.TheoryRead.the-variants as theory
 

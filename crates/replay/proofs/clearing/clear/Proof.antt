@@ -2,10 +2,10 @@
 -- Assumes nothing.
 use borrow.Author.Needs.{needs}
 use native.Mathlib.Omega.{arith}
-use Prim.Native.Nat.{ℕ, _-_, _≤_}
-use mathlib.Core.Path.{_≡_, refl, ap, _∙_}
-use mathlib.Core.List.{List, _++_}
-use lib.ListN.{length, set, drop, replicate, length-set}
+use Prim.Native.Nat.{_-_, _≤_}
+use mathlib.Core.Path.{_≡_, refl, _∙_}
+use mathlib.Core.List.{_++_}
+use lib.ListN.{length, drop, replicate, length-set}
 use Rattle.replay.proofs.Cleared.{cleared-more}
 use Rattle.replay.proofs.clearing.clear.Statement.{statement}
 use Rattle.replay.proofs.clearing.clear.Tie as tie
@@ -23,13 +23,22 @@ slice-write-work : tie.Need-slice-write-work Inv-loop μ-loop
 slice-write-work c = omega (arith, c .before .loop .inv .1)
 
 loop-again : tie.Need-loop-again Inv-loop μ-loop
-loop-again c = (omega arith, length-set (c .before .loop .work) (c .before .loop .i) 0 ∙ c .before .loop .inv .1, ap (λ (w : List ℕ). set w (c .before .loop .i) 0) (c .before .loop .inv .2) ∙ cleared-more (c .before .before .args .work .now) (c .before .loop .i) (omega (arith, c .before .before .pre)))
+loop-again c =
+    let l = c .before .loop in
+    let start = c .before .before in (
+      omega arith,
+      length-set (l .work) (l .i) 0 ∙ l .inv .1,
+      rw (l .inv .2) (cleared-more (start .args .work .now) (l .i) (omega (arith, start .pre))),
+    )
 
 same-length : tie.Need-same-length Inv-loop μ-loop
 same-length c = c .before .loop .inv .1
 
 returns : tie.Need-returns Inv-loop μ-loop
-returns c = let e : c .before .loop .i ≡ c .before .before .args .count = omega (arith, c .before .loop .inv .0, c .loop-test .left) in rw (← e) (c .before .loop .inv .2)
+returns c =
+    let l = c .before .loop in
+    let e : l .i ≡ c .before .before .args .count = omega (arith, l .inv .0, c .loop-test .left) in
+    rw (← e) (l .inv .2)
 
 pub clear-spec : {M : Type 1} → statement M
 clear-spec =

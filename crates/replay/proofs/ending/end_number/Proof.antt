@@ -2,43 +2,75 @@
 -- Assumes nothing.
 use borrow.Author.Needs.{needs}
 use native.Mathlib.Omega.{arith}
-use borrow.Author.Tests.{not-true, not-false}
-use mathlib.Core.Path.{sym, _∙_}
+use Prim.Native.Nat.{ℕ}
+use mathlib.Core.Path.{_≡_, sym, _∙_}
+use mathlib.Core.List.{List}
+use mathlib.Core.Bool.{Bool, true, false}
+use lib.ListN.{length, take, drop}
 use lib.Seq.{length-take-le}
+use borrow.Author.Tests.{not-true, not-false}
+use Rattle.text.specs.Bytes.{same}
+use Rattle.text.specs.memory.Numbers.{numbersAt}
+use Rattle.formula.specs.memory.Clauses.{allAt, clauseAt}
+use Rattle.replay.specs.memory.Held.{Held, held, endIn}
 use Rattle.replay.proofs.NameLists.{region-length}
-use Rattle.replay.proofs.Footers.{end-other, end-ended, end-clauses, end-unground}
 use Rattle.replay.proofs.ending.end_number.Statement.{statement}
 use Rattle.replay.proofs.ending.end_number.Tie as tie
 
+-- what memory holds, and the names that the footer lists
+module _ (start : tie.Start) where
+  abbrev memory : Held
+  memory = held (take (start .args .live .full) (start .args .work .now)) (take (start .args .live .count) (drop (start .args .start) (start .args .work .now))) (start .args .live .top) (start .args .live .ended)
+
+  abbrev final : List ℕ
+  final = numbersAt (start .args .text .now) (start .args .names) (start .args .many)
+
+  words-long : length (memory .words) ≡ start .args .live .full
+  words-long = length-take-le (start .args .live .full) (start .args .work .now) (omega (arith, start .pre))
+
+-- the footer lists the live names
+listed : (c : tie.Else1) → let start = c .before .before .before .before in same (final start) (memory start .names) ≡ true
+listed c = sym (c .before .are-listed .ensures) ∙ not-false _ (c .if1 .left)
+
+-- whether the final formulas are clauses
+clauses : (c : tie.After-are-clauses-at) (b : Bool) → c .are-clauses-at .result ≡ b
+    → let start = c .before .before .before .before .before .before .before .before in allAt (clauseAt (start .args .table) 32) (length (memory start .names)) (memory start .words) ≡ b
+clauses c b e =
+    let start = c .before .before .before .before .before .before .before .before in
+    rw (region-length (start .args .work .now) (start .args .start) (start .args .live .count) (omega (arith, start .pre))) (sym (c .are-clauses-at .ensures) ∙ e)
+
 returns : tie.Need-returns
-returns c =
-    let a = c .before .before .before .before .args in
-    end-other (a .table) _ _ (sym (c .before .are-listed .ensures) ∙ not-true _ (c .if1 .taken))
+unfolding endIn
+returns c = rw (sym (c .before .are-listed .ensures) ∙ not-true _ (c .if1 .taken))
 
 returns-2 : tie.Need-returns-2
-returns-2 c =
-    let a = c .before .before .before .before .before .args in
-    end-ended (a .table) _ _ (sym (c .before .before .are-listed .ensures) ∙ not-false _ (c .before .if1 .left)) (c .if2 .taken)
+unfolding endIn
+returns-2 c = rw (listed (c .before), c .if2 .taken)
 
 slice-aggregate-are-clauses-at : tie.Need-slice-aggregate-are-clauses-at
-slice-aggregate-are-clauses-at c = sym (length-take-le (c .before .before .before .before .before .before .args .live .full) (c .before .before .before .before .before .before .args .work .now) (omega (arith, c .before .before .before .before .before .before .pre)))
+slice-aggregate-are-clauses-at c =
+    let before = c .before .before .before .before .before .before in
+    sym (words-long (before))
 
 are-clauses-at-requires : tie.Need-are-clauses-at-requires
 are-clauses-at-requires c κs =
-    let l = length-take-le (c .before .before .before .before .before .before .before .args .live .full) (c .before .before .before .before .before .before .before .args .work .now) (omega (arith, c .before .before .before .before .before .before .before .pre)) in
-    (omega arith, omega (arith, l, c .before .before .before .before .before .before .before .pre))
+    let before = c .before .before .before .before .before .before .before in
+    let start = c .before .before .before .before .before .before .before in
+    (omega arith, omega (arith, words-long (before), start .pre))
 
 returns-3 : tie.Need-returns-3
+unfolding endIn
 returns-3 c =
-    let a = c .before .before .before .before .before .before .before .before .before .args in
-    let l = region-length (a .work .now) (a .start) (a .live .count) (omega (arith, c .before .before .before .before .before .before .before .before .before .pre)) in
-    end-clauses (a .table) _ _ (sym (c .before .before .before .before .before .before .are-listed .ensures) ∙ not-false _ (c .before .before .before .before .before .if1 .left)) (c .before .before .before .before .if2 .left) (rw l (sym (c .before .are-clauses-at .ensures) ∙ c .if3 .taken))
+    let before = c .before .before .before .before .before in
+    let if2 = c .before .before .before .before .if2 in
+    rw (listed (before), if2 .left, clauses (c .before) true (c .if3 .taken))
 
 returns-4 : tie.Need-returns-4
+unfolding endIn
 returns-4 c =
-    let a = c .before .before .before .before .before .before .before .before .before .args in
-    let l = region-length (a .work .now) (a .start) (a .live .count) (omega (arith, c .before .before .before .before .before .before .before .before .before .pre)) in
-    end-unground (a .table) _ _ (sym (c .before .before .before .before .before .before .are-listed .ensures) ∙ not-false _ (c .before .before .before .before .before .if1 .left)) (c .before .before .before .before .if2 .left) (rw l (sym (c .before .are-clauses-at .ensures) ∙ c .if3 .left))
+    let before = c .before .before .before .before .before in
+    let if2 = c .before .before .before .before .if2 in
+    rw (listed (before), if2 .left, clauses (c .before) false (c .if3 .left))
 
 pub end-number-spec : {M : Type 1} → statement M
 end-number-spec =

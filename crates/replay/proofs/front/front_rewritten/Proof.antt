@@ -7,15 +7,23 @@ use Rattle.replay.proofs.front.front_rewritten.Statement.{statement}
 use Rattle.replay.proofs.front.front_rewritten.Tie as tie
 
 rewrite-requires : tie.Need-rewrite-requires
-rewrite-requires c κs = (record { here = c .before .before .pre .0 .here; apart = c .before .before .pre .0 .apart; within = omega (arith, c .before .before .pre .0 .room); long = c .before .before .pre .0 .long }, c .before .before .pre .1)
+rewrite-requires c κs =
+    let start = c .before .before in
+    let roomy = start .pre .0 in
+    (record { here = roomy .here; apart = roomy .apart; within = omega (arith, roomy .room); long = roomy .long }, start .pre .1)
 
 returns : tie.Need-returns
 returns c =
-    record { sized = c .before .before .before .rewrite .ensures .sized; stands = λ s. absurd (omega (arith, c .if1 .taken, s)) }
+    let rewrite = c .before .before .before .rewrite in
+    record { sized = rewrite .ensures .sized; stands = λ s. absurd (omega (arith, c .if1 .taken, s)) }
 
 returns-2 : tie.Need-returns-2
 returns-2 c =
-    fronted _ _ _ _ _ _ (c .before .before .before .before .before .before .before .rewrite .ensures .holds) (c .before .before .before .before .before .before .before .rewrite .ensures .sized) (omega (arith, c .before .before .before .before .if1 .left)) (c .before .before .before .before .before .before .before .before .before .before .pre .0 .room) (c .before .before .copy-back .ensures .holds)
+    let if1 = c .before .before .before .before .if1 in
+    let rewrite = c .before .before .before .before .before .before .before .rewrite in
+    let start = c .before .before .before .before .before .before .before .before .before .before in
+    let made = rewrite .ensures in
+    fronted _ _ _ _ _ _ (made .holds) (made .sized) (omega (arith, if1 .left)) (start .pre .0 .room) (c .before .before .copy-back .ensures .holds)
 
 pub front-rewritten-spec : {M : Type 1} → statement M
 front-rewritten-spec =

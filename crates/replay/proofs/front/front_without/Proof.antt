@@ -2,7 +2,7 @@
 -- Assumes nothing.
 use borrow.Author.Needs.{needs}
 use native.Mathlib.Omega.{arith}
-use Prim.Native.Nat.{_+_}
+use Prim.Native.Nat.{_+_, _<_}
 use mathlib.Core.Path.{_≡_}
 use mathlib.Core.List.{[]}
 use lib.ListN.{length}
@@ -13,19 +13,25 @@ use Rattle.replay.proofs.front.front_without.Tie as tie
 without-word-requires : tie.Need-without-word-requires
 without-word-requires c κs = roomy-placed (c .before .before .pre)
 
+-- the theory made behind is shorter
+shorter : (c : tie.After-without-word) → c .without-word .result < c .before .before .before .args .full
+shorter c =
+    let start = c .before .before .before in
+    let a = start .args in
+    let l = length-spliced (a .words .now) (a .at) (a .at + 1) (a .full) [] (omega (arith, start .pre)) (omega (arith, start .pre)) in
+    omega (arith, start .pre, c .without-word .ensures .sized, l)
+
 copy-back-requires : tie.Need-copy-back-requires
 copy-back-requires c κs =
-    let a = c .before .before .before .before .before .before .args in
-    let l = length-spliced (a .words .now) (a .at) (a .at + 1) (a .full) [] (omega (arith, c .before .before .before .before .before .before .pre)) (omega (arith, c .before .before .before .before .before .before .pre)) in
-    let same : length (c .before .before .before .without-word .last .0) ≡ length (a .words .now) = search needs in
-    omega (arith, c .before .before .before .before .before .before .pre, c .before .before .before .without-word .ensures .sized, l, same)
+    let start = c .before .before .before .before .before .before in
+    let same : length (c .before .before .before .without-word .last .0) ≡ length (start .args .words .now) = search needs in
+    omega (arith, start .pre, shorter (c .before .before .before), same)
 
 returns : tie.Need-returns
 returns c =
-    let a = c .before .before .before .before .before .before .before .before .before .args in
-    let l = length-spliced (a .words .now) (a .at) (a .at + 1) (a .full) [] (omega (arith, c .before .before .before .before .before .before .before .before .before .pre)) (omega (arith, c .before .before .before .before .before .before .before .before .before .pre)) in
-    let s = c .before .before .before .before .before .before .without-word .ensures .sized in
-    (fronted _ _ _ _ _ _ (c .before .before .before .before .before .before .without-word .ensures .holds) s (omega (arith, c .before .before .before .before .before .before .before .before .before .pre, s, l)) (c .before .before .before .before .before .before .before .before .before .pre .room) (c .before .before .copy-back .ensures .holds), omega (arith, c .before .before .before .before .before .before .before .before .before .pre, s, l))
+    let behind = c .before .before .before .before .before .before .without-word .ensures in
+    let pre = c .before .before .before .before .before .before .before .before .before .pre in
+    (fronted _ _ _ _ _ _ (behind .holds) (behind .sized) (omega (arith, pre, shorter (c .before .before .before .before .before .before))) (pre .room) (c .before .before .copy-back .ensures .holds), shorter (c .before .before .before .before .before .before))
 
 pub front-without-spec : {M : Type 1} → statement M
 front-without-spec =

@@ -14,16 +14,22 @@ part-put-first-start c = omega (arith, c .before .pre .0)
 
 put-first-requires : tie.Need-put-first-requires
 put-first-requires c κs =
-    let a = c .before .before .args in
+    let start = c .before .before in
+    let a = start .args in
     let e = ap length (part-end (a .work .now) (a .layout .names)) in
     let l = length-drop (a .layout .names) (a .work .now) in
-    (omega (arith, e, l, c .before .before .pre .0, c .before .before .pre .1), omega (arith, c .before .before .pre .1))
+    (omega (arith, e, l, start .pre .0, start .pre .1), omega (arith, start .pre .1))
 
 cast-t12 : tie.Need-cast-t12
-cast-t12 c = omega (arith, c .before .before .before .before .before .pre .1)
+cast-t12 c =
+    let start = c .before .before .before .before .before in
+    omega (arith, start .pre .1)
 
 returns : tie.Need-returns
-returns c = rw (c .before .before .put-first .ensures) (first-named (c .before .before .before .before .before .args .layout) (c .before .before .before .before .before .args .count) (c .before .before .before .before .before .args .full) (c .before .before .before .before .before .args .work .now) (c .before .before .before .before .before .pre .0) (c .before .before .before .before .before .pre .1) (c .before .before .before .before .before .pre .2))
+returns c =
+    let a = c .before .before .before .before .before .args in
+    let pre = c .before .before .before .before .before .pre in
+    rw (c .before .before .put-first .ensures) (first-named (a .layout) (a .count) (a .full) (a .work .now) (pre .0) (pre .1) (pre .2))
 
 pub named-spec : {M : Type 1} → statement M
 named-spec =

@@ -7,8 +7,9 @@ use Rattle.replay.proofs.job.replay.Tie as tie
 
 returns : tie.Need-returns
 returns c =
+    let answered = c .before .before .before .before .answered in
     let a = c .before .before .before .before .before .before .before .before .before .before .before .before .before .args in
-    replay-promised (a .problem .now) (a .theory .now) (a .derivation .now) (a .output .now) (a .work .now) _ _ _ (c .before .before .before .before .answered .ensures)
+    replay-promised (a .problem .now) (a .theory .now) (a .derivation .now) (a .output .now) (a .work .now) _ _ _ (answered .ensures)
 
 pub replay-spec : {M : Type 1} → statement M
 replay-spec =

@@ -2,8 +2,9 @@
 -- Assumes nothing.
 use borrow.Author.Needs.{needs}
 use native.Mathlib.Omega.{arith}
-use Prim.Native.Nat.{_+_, _-_, _≤_}
+use Prim.Native.Nat.{ℕ, _+_, _-_, _≤_}
 use mathlib.Core.Path.{_≡_, ap}
+use mathlib.Core.List.{List, _∷_}
 use lib.ListN.{drop, getD}
 use Rattle.replay.specs.memory.Names.{indexIn}
 use Rattle.replay.proofs.NameLists.{region, region-more, region-end, index-here, index-later, index-none}
@@ -19,24 +20,36 @@ abbrev μ-loop : tie.MeasureT-loop
 loop-holds : tie.Need-loop-holds Inv-loop μ-loop
 loop-holds c = (omega arith, omega arith)
 
+-- the index in the rest, by the name at its front
+module _ (c : tie.In-loop Inv-loop μ-loop) where
+  abbrev rest : ℕ → List ℕ
+  rest i = drop i (region (c .before .before .args .work .now) (c .before .before .args .from) (c .before .before .args .count))
+
+  abbrev here : ℕ
+  here = getD (c .before .before .args .work .now) (c .before .before .args .from + c .before .loop .i) 0
+
+  more : indexIn (c .before .before .args .name) (rest (c .before .loop .i)) ≡ indexIn (c .before .before .args .name) (here ∷ rest (c .before .loop .i + 1))
+  more = ap (indexIn (c .before .before .args .name)) (region-more (c .before .before .args .work .now) (c .before .before .args .from) (c .before .before .args .count) (c .before .before .pre) (c .before .loop .i) (c .loop-test .taken))
+
 returns : tie.Need-returns Inv-loop μ-loop
 returns c =
-    let a = c .before .before .before .before .args in
-    let z = ap (indexIn (a .name)) (region-more (a .work .now) (a .from) (a .count) (c .before .before .before .before .pre) (c .before .before .before .loop .i) (c .before .before .loop-test .taken)) in
-    let y = index-here (a .name) (getD (a .work .now) (a .from + c .before .before .before .loop .i) 0) (drop (c .before .before .before .loop .i + 1) (region (a .work .now) (a .from) (a .count))) (c .if1 .taken) in
+    let loop = c .before .before .before .loop in
+    let z = more (c .before .before) in
+    let y = index-here (c .before .before .before .before .args .name) (here (c .before .before)) (rest (c .before .before) (loop .i + 1)) (c .if1 .taken) in
     omega arith
 
 loop-again : tie.Need-loop-again Inv-loop μ-loop
 loop-again c =
-    let a = c .before .before .before .before .args in
-    let z = ap (indexIn (a .name)) (region-more (a .work .now) (a .from) (a .count) (c .before .before .before .before .pre) (c .before .before .before .loop .i) (c .before .before .loop-test .taken)) in
-    let y = index-later (a .name) (getD (a .work .now) (a .from + c .before .before .before .loop .i) 0) (drop (c .before .before .before .loop .i + 1) (region (a .work .now) (a .from) (a .count))) (c .if1 .left) in
+    let loop = c .before .before .before .loop in
+    let z = more (c .before .before) in
+    let y = index-later (c .before .before .before .before .args .name) (here (c .before .before)) (rest (c .before .before) (loop .i + 1)) (c .if1 .left) in
     (omega arith, omega arith)
 
 returns-2 : tie.Need-returns-2 Inv-loop μ-loop
 returns-2 c =
-    let a = c .before .before .args in
-    let z = ap (indexIn (a .name)) (region-end (a .work .now) (a .from) (a .count) (c .before .before .pre) (c .before .loop .i) (c .loop-test .left)) in
+    let start = c .before .before in
+    let a = start .args in
+    let z = ap (indexIn (a .name)) (region-end (a .work .now) (a .from) (a .count) (start .pre) (c .before .loop .i) (c .loop-test .left)) in
     let y = index-none (a .name) in
     omega arith
 

@@ -3,10 +3,10 @@
 use Rattle.replay.proofs.names.put_first.Statement.{statement}
 use borrow.Author.Needs.{needs}
 use native.Mathlib.Omega.{arith}
-use Prim.Native.Nat.{ℕ, _+_, _-_, _≤_}
-use mathlib.Core.Path.{_≡_, refl, ap, _∙_}
-use mathlib.Core.List.{List, _++_}
-use lib.ListN.{length, set, drop, length-set}
+use Prim.Native.Nat.{_-_, _≤_}
+use mathlib.Core.Path.{_≡_, refl, _∙_}
+use mathlib.Core.List.{_++_}
+use lib.ListN.{length, drop, length-set}
 use Rattle.logic.specs.Meaning.{countFrom}
 use Rattle.replay.proofs.NameLists.{first-more}
 use Rattle.replay.proofs.names.put_first.Tie as tie
@@ -24,15 +24,22 @@ slice-write-list : tie.Need-slice-write-list Inv-loop μ-loop
 slice-write-list c = omega (arith, c .before .loop .inv .1)
 
 loop-again : tie.Need-loop-again Inv-loop μ-loop
-loop-again c = (omega arith, length-set (c .before .loop .list) (c .before .loop .i) _ ∙ c .before .loop .inv .1, ap (λ (l : List ℕ). set l (c .before .loop .i) (c .before .loop .i + 1)) (c .before .loop .inv .2) ∙ first-more (c .before .before .args .list .now) (c .before .loop .i) (omega (arith, c .before .before .pre .0)))
+loop-again c =
+    let l = c .before .loop in
+    let start = c .before .before in (
+      omega arith,
+      length-set (l .list) (l .i) _ ∙ l .inv .1,
+      rw (l .inv .2) (first-more (start .args .list .now) (l .i) (omega (arith, start .pre .0))),
+    )
 
 same-length : tie.Need-same-length Inv-loop μ-loop
 same-length c = c .before .loop .inv .1
 
 returns : tie.Need-returns Inv-loop μ-loop
 returns c =
-    let e : c .before .loop .i ≡ c .before .before .args .count = omega (arith, c .before .loop .inv .0, c .loop-test .left) in
-    rw (← e) (c .before .loop .inv .2)
+    let l = c .before .loop in
+    let e : l .i ≡ c .before .before .args .count = omega (arith, l .inv .0, c .loop-test .left) in
+    rw (← e) (l .inv .2)
 
 pub put-first-spec : {M : Type 1} → statement M
 put-first-spec =

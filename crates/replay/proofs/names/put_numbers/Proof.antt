@@ -4,14 +4,14 @@ use Rattle.replay.proofs.names.put_numbers.Statement.{statement}
 use borrow.Author.Needs.{needs}
 use native.Mathlib.Omega.{arith}
 use Prim.Native.Nat.{_+_, _≤_}
-use mathlib.Core.Path.{_∙_}
 use Rattle.text.specs.memory.Numbers.{numbersAt}
 use Rattle.formula.proofs.memory.Storing.{Ahead, ahead-start, ahead-turn, ahead-end, ahead-length}
 use Rattle.text.proofs.NumberPlaces.{numbersAt-more, numbersAt-none, length-numbersAt}
 use Rattle.replay.proofs.names.put_numbers.Tie as tie
 
 abbrev Inv-loop : tie.InvT-loop
-Inv-loop list₀ to text at many place₀ next₀ left₀ list place next left = (left ≤ many) × (place + left ≤ 300000) × Ahead list₀ to (numbersAt text at many) list next (numbersAt text place left)
+Inv-loop list₀ to text at many place₀ next₀ left₀ list place next left =
+    (left ≤ many) × (place + left ≤ 300000) × Ahead list₀ to (numbersAt text at many) list next (numbersAt text place left)
 
 abbrev μ-loop : tie.MeasureT-loop
 μ-loop list₀ to text at many place₀ next₀ left₀ list place next left = left
@@ -21,17 +21,21 @@ loop-holds c = (omega arith, omega arith, ahead-start _ _ _)
 
 put-requires : tie.Need-put-requires Inv-loop μ-loop
 put-requires c κs =
+    let loop = c .before .before .before .loop in
     let a = c .before .before .before .before .before .before .args in
-    omega (arith, c .before .before .before .loop .inv .2 .ends, length-numbersAt (a .text .now) (a .at) (a .many))
+    omega (arith, loop .inv .2 .ends, length-numbersAt (a .text .now) (a .at) (a .many))
 
 add-place : tie.Need-add-place Inv-loop μ-loop
-add-place c = omega (arith, c .before .before .before .before .before .digits-at .ensures .within)
+add-place c =
+    let digits-at = c .before .before .before .before .before .digits-at in
+    omega (arith, digits-at .ensures .within)
 
 loop-again : tie.Need-loop-again Inv-loop μ-loop
 loop-again c =
-    let a = c .before .before .before .before .before .before .before .before .before .before .args in
+    let l = c .before .before .before .before .before .before .before .loop in
     let d = c .before .before .before .before .before .digits-at .ensures in
-    (omega arith, omega (arith, d .within), ahead-turn (c .before .before .before .before .before .before .before .loop .inv .2) (numbersAt-more (a .text .now) (c .before .before .before .before .before .before .before .loop .place) (c .before .before .before .before .before .before .before .loop .left) (c .before .before .before .before .before .before .loop-test .taken) ∙ rw (← d .value, ← d .next)) (c .before .before .before .put .ensures))
+    let more = rw (← d .value, ← d .next) at (numbersAt-more (c .before .before .before .before .before .before .before .before .before .before .args .text .now) (l .place) (l .left) (c .before .before .before .before .before .before .loop-test .taken)) in
+    (omega arith, omega (arith, d .within), ahead-turn (l .inv .2) more (c .before .before .before .put .ensures))
 
 same-length : tie.Need-same-length Inv-loop μ-loop
 same-length c = ahead-length (c .before .loop .inv .2)

@@ -2,101 +2,101 @@
 -- Assumes nothing.
 use borrow.Author.Needs.{needs}
 use native.Mathlib.Omega.{arith}
-use mathlib.Core.Path.{refl}
-use Rattle.replay.specs.memory.Steps.{rowsIn, heldIn}
-use Rattle.replay.proofs.Turns.{told-text, rewritten-line, refuted-line, removed-line, split-line, footer-line, malformed-line}
+use Rattle.replay.specs.memory.Held.{Held, steppedIn}
+use Rattle.replay.specs.memory.Steps.{heldIn}
+use Rattle.replay.proofs.Turns.{name-rule, stepped-line, footer-line, malformed-line}
 use Rattle.replay.proofs.replaying.replay_line.Statement.{statement}
 use Rattle.replay.proofs.replaying.replay_line.Tie as tie
 
+-- what memory holds
+module _ (line : tie.After-read-line) where
+  abbrev begun : tie.Start
+  begun = line .before .before .before
+
+  abbrev memory : Held
+  memory = heldIn (begun .args .layout) (begun .args .live) (begun .args .work .now)
+
 rewritten-requires : tie.Need-rewritten-requires
 rewritten-requires c κs =
-    let line = c .before .before .before .before in
-    let start = line .before .before .before in
-    let t = told-text (start .args .text .now) (start .args .at) _ _ (c .before .before .read .given .1) (line .read-line .ensures .told) in
-    (start .pre .0, start .pre .1, start .pre .2, omega (arith, t .1, t .0 .within), start .pre .4, omega (arith, t .1, t .0 .within, start .pre .4))
+    let t = rw (c .before .before .read .given .1) at (c .before .before .before .before .read-line .ensures .told) in
+    let pre = c .before .before .before .before .before .before .before .pre in
+    (pre .0, pre .1, pre .2, omega (arith, t .1, t .0 .within), pre .4, omega (arith, t .1, t .0 .within, pre .4))
 
 refuted-requires : tie.Need-refuted-requires
 refuted-requires c κs =
-    let line = c .before .before .before .before in
-    let start = line .before .before .before in
-    let t = told-text (start .args .text .now) (start .args .at) _ _ (c .before .before .read2 .given .1) (line .read-line .ensures .told) in
-    (start .pre .0, start .pre .1, omega (arith, t .1, t .0 .within), start .pre .4, omega (arith, t .1, t .0 .within, start .pre .4))
+    let t = rw (c .before .before .read2 .given .1) at (c .before .before .before .before .read-line .ensures .told) in
+    let pre = c .before .before .before .before .before .before .before .pre in
+    (pre .0, pre .1, omega (arith, t .1, t .0 .within), pre .4, omega (arith, t .1, t .0 .within, pre .4))
 
 removed-requires : tie.Need-removed-requires
 removed-requires c κs =
-    let line = c .before .before .before .before in
-    let start = line .before .before .before in
-    let t = told-text (start .args .text .now) (start .args .at) _ _ (c .before .before .read3 .given .1) (line .read-line .ensures .told) in
-    (start .pre .0, start .pre .1, omega (arith, t .1, t .0 .within), start .pre .4, omega (arith, t .1, t .0 .within, start .pre .4))
+    let t = rw (c .before .before .read3 .given .1) at (c .before .before .before .before .read-line .ensures .told) in
+    let pre = c .before .before .before .before .before .before .before .pre in
+    (pre .0, pre .1, omega (arith, t .1, t .0 .within), pre .4, omega (arith, t .1, t .0 .within, pre .4))
 
 split-requires : tie.Need-split-requires
 split-requires c κs =
-    let line = c .before .before .before .before in
-    let start = line .before .before .before in
-    let t = told-text (start .args .text .now) (start .args .at) _ _ (c .before .before .read4 .given .1) (line .read-line .ensures .told) in
-    (start .pre .0, start .pre .1, omega (arith, t .1 .0, t .0 .within), start .pre .4, omega (arith, t .1 .0, t .0 .within, start .pre .4), omega (arith, t .1 .1, t .0 .within, start .pre .4))
+    let t = rw (c .before .before .read4 .given .1) at (c .before .before .before .before .read-line .ensures .told) in
+    let pre = c .before .before .before .before .before .before .before .pre in
+    (pre .0, pre .1, omega (arith, t .1 .0, t .0 .within), pre .4, omega (arith, t .1 .0, t .0 .within, pre .4), omega (arith, t .1 .1, t .0 .within, pre .4))
 
 returns : tie.Need-returns
+unfolding steppedIn
 returns c =
-    let step = c .before .before .before in
-    let line = step .before .before .before .before .before in
-    let a = line .before .before .before .args in
-    let t = told-text (a .text .now) (a .at) _ _ (step .before .before .before .read .given .1) (line .read-line .ensures .told) in
+    let done = c .before .before .before in
+    let line = done .before .before .before .before .before in
+    let a = begun line .args in
+    let t = rw (done .before .before .before .read .given .1) at (line .read-line .ensures .told) in
     λ first.
     rw (c .moved-by .ensures)
-    (rewritten-line (a .table) (rowsIn (a .layout) (a .work .now)) first (a .layout) (a .work .now) (heldIn (a .layout) (a .live) (a .work .now)) (a .text .now) (a .at) (a .line) _
-    (line .read-line .ensures .numbered) refl _ (step .rewritten .result) (step .rewritten .last .1 .0) _ _ _ _ (t .0) (step .rewritten .ensures))
+    (stepped-line (a .table) first (a .layout) (a .work .now) (memory line) (line .read-line .ensures .numbered) (t .0) (done .rewritten .result) (done .rewritten .last .1 .0) (rw name-rule (done .rewritten .ensures)))
 
 returns-2 : tie.Need-returns-2
+unfolding steppedIn
 returns-2 c =
-    let step = c .before .before .before in
-    let line = step .before .before .before .before .before in
-    let a = line .before .before .before .args in
-    let t = told-text (a .text .now) (a .at) _ _ (step .before .before .before .read2 .given .1) (line .read-line .ensures .told) in
+    let done = c .before .before .before in
+    let line = done .before .before .before .before .before in
+    let a = begun line .args in
+    let t = rw (done .before .before .before .read2 .given .1) at (line .read-line .ensures .told) in
     λ first.
     rw (c .moved-by2 .ensures)
-    (refuted-line (a .table) (rowsIn (a .layout) (a .work .now)) first (a .layout) (a .work .now) (heldIn (a .layout) (a .live) (a .work .now)) (a .text .now) (a .at) (a .line) _
-    (line .read-line .ensures .numbered) refl _ (step .refuted .result) (step .refuted .last .1 .0) _ _ _ (t .0) (step .refuted .ensures))
+    (stepped-line (a .table) first (a .layout) (a .work .now) (memory line) (line .read-line .ensures .numbered) (t .0) (done .refuted .result) (done .refuted .last .1 .0) (done .refuted .ensures))
 
 returns-3 : tie.Need-returns-3
+unfolding steppedIn
 returns-3 c =
-    let step = c .before .before .before in
-    let line = step .before .before .before .before .before in
-    let a = line .before .before .before .args in
-    let t = told-text (a .text .now) (a .at) _ _ (step .before .before .before .read3 .given .1) (line .read-line .ensures .told) in
+    let done = c .before .before .before in
+    let line = done .before .before .before .before .before in
+    let a = begun line .args in
+    let t = rw (done .before .before .before .read3 .given .1) at (line .read-line .ensures .told) in
     λ first.
     rw (c .moved-by3 .ensures)
-    (removed-line (a .table) (rowsIn (a .layout) (a .work .now)) first (a .layout) (a .work .now) (heldIn (a .layout) (a .live) (a .work .now)) (a .text .now) (a .at) (a .line) _
-    (line .read-line .ensures .numbered) refl _ (step .removed .result) (step .removed .last .1 .0) _ _ _ (t .0) (step .removed .ensures))
+    (stepped-line (a .table) first (a .layout) (a .work .now) (memory line) (line .read-line .ensures .numbered) (t .0) (done .removed .result) (done .removed .last .1 .0) (done .removed .ensures))
 
 returns-4 : tie.Need-returns-4
+unfolding steppedIn
 returns-4 c =
-    let step = c .before .before .before in
-    let line = step .before .before .before .before .before in
-    let a = line .before .before .before .args in
-    let t = told-text (a .text .now) (a .at) _ _ (step .before .before .before .read4 .given .1) (line .read-line .ensures .told) in
+    let done = c .before .before .before in
+    let line = done .before .before .before .before .before in
+    let a = begun line .args in
+    let t = rw (done .before .before .before .read4 .given .1) at (line .read-line .ensures .told) in
     λ first.
     rw (c .moved-by4 .ensures)
-    (split-line (a .table) (rowsIn (a .layout) (a .work .now)) first (a .layout) (a .work .now) (heldIn (a .layout) (a .live) (a .work .now)) (a .text .now) (a .at) (a .line) _
-    (line .read-line .ensures .numbered) refl _ (step .split .result) (step .split .last .1 .0) _ _ _ _ _ (t .0) (step .split .ensures))
+    (stepped-line (a .table) first (a .layout) (a .work .now) (memory line) (line .read-line .ensures .numbered) (t .0) (done .split .result) (done .split .last .1 .0) (done .split .ensures))
 
 returns-5 : tie.Need-returns-5
 returns-5 c =
     let line = c .before .before .before in
-    let a = line .before .before .before .args in
-    let t = told-text (a .text .now) (a .at) _ _ (c .before .read5 .given .1) (line .read-line .ensures .told) in
-    λ first.
-    footer-line (a .table) (rowsIn (a .layout) (a .work .now)) first (a .layout) (a .work .now) (heldIn (a .layout) (a .live) (a .work .now)) (a .text .now) (a .at) (a .line) _
-    (line .read-line .ensures .numbered) _ _ _ (t .0) (t .1)
+    let a = begun line .args in
+    let t = rw (c .before .read5 .given .1) at (line .read-line .ensures .told) in
+    λ first. footer-line (a .table) first (a .layout) (a .work .now) (memory line) (line .read-line .ensures .numbered) _ _ (t .0) (t .1)
 
 returns-6 : tie.Need-returns-6
 returns-6 c =
     let line = c .before .before in
-    let a = line .before .before .before .args in
-    let t = told-text (a .text .now) (a .at) _ _ (c .enum-told .given .1) (line .read-line .ensures .told) in
-    λ first.
-    malformed-line (a .table) (rowsIn (a .layout) (a .work .now)) first (a .layout) (a .work .now) (heldIn (a .layout) (a .live) (a .work .now)) (a .text .now) (a .at) (a .line) _
-    (line .read-line .ensures .numbered) t (a .work .now)
+    let a = begun line .args in
+    let t = rw (c .enum-told .given .1) at (line .read-line .ensures .told) in
+    λ first. malformed-line (a .table) first (a .layout) (a .work .now) (memory line) (line .read-line .ensures .numbered) t (a .work .now)
 
 pub replay-line-spec : {M : Type 1} → statement M
 replay-line-spec =

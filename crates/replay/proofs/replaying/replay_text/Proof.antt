@@ -1,48 +1,54 @@
 -- `replaying::replay_text`: the heading's two lines, and the rest.
 -- Assumes nothing.
 use borrow.Author.Needs.{needs}
+use Prim.Native.Nat.{ℕ}
+use mathlib.Core.List.{List}
 use Rattle.text.specs.Derivation.{readVersion, readGrounder}
+use Rattle.text.specs.memory.RuleLines.{EndFound}
+use Rattle.replay.specs.memory.Held.{Held}
 use Rattle.replay.specs.memory.Steps.{rowsIn, heldIn}
-use Rattle.replay.proofs.Turns.{told-end, version-refused, grounder-refused, grounder-on}
+use Rattle.replay.proofs.Turns.{version-refused, grounder-refused, grounder-on}
 use Rattle.replay.proofs.replaying.replay_text.Statement.{statement}
 use Rattle.replay.proofs.replaying.replay_text.Tie as tie
 
+-- what memory holds, and the rows
+module _ (start : tie.Start) where
+  abbrev memory : Held
+  memory = heldIn (start .args .layout) (start .args .live) (start .args .work .now)
+
+  abbrev rows : List ℕ
+  rows = rowsIn (start .args .layout) (start .args .work .now)
+
+-- the heading's first line is read
+versioned : (c : tie.After-known-told) → EndFound readVersion (c .before .before .before .before .before .before .args .text .now) 0 (c .before .heading .given .0 .0)
+versioned c = rw (c .before .heading .given .1) at (c .before .before .before .version-end .ensures)
+
+-- and its second
+headed : (c : tie.After-known-told2) → EndFound readGrounder (c .before .before .before .before .before .before .before .before .before .before .args .text .now) (c .before .before .before .before .before .heading .given .0 .0) (c .before .at .given .0 .0)
+headed c = rw (c .before .at .given .1) at (c .before .before .before .grounder-end .ensures)
+
 grounder-end-requires : tie.Need-grounder-end-requires
-grounder-end-requires c κs =
-    let a = c .before .before .before .before .before .before .args in
-    let v = told-end readVersion (a .text .now) 0 _ _ (c .before .heading .given .1) (c .before .before .before .version-end .ensures) in
-    v .taken .within
+grounder-end-requires c κs = versioned c .taken .within
 
 replay-lines-requires : tie.Need-replay-lines-requires
 replay-lines-requires c κs =
-    let a = c .before .before .before .before .before .before .before .before .before .before .before .args in
-    let v = told-end readVersion (a .text .now) 0 _ _ (c .before .before .before .before .before .before .heading .given .1) (c .before .before .before .before .before .before .before .before .version-end .ensures) in
-    let g = told-end readGrounder (a .text .now) (c .before .before .before .before .before .before .heading .given .0 .0) _ _ (c .before .before .at .given .1) (c .before .before .before .before .grounder-end .ensures) in
-    (c .before .before .before .before .before .before .before .before .before .before .before .pre .0, c .before .before .before .before .before .before .before .before .before .before .before .pre .1, c .before .before .before .before .before .before .before .before .before .before .before .pre .2, g .taken .within, c .before .before .before .before .before .before .before .before .before .before .before .pre .3)
+    let pre = c .before .before .before .before .before .before .before .before .before .before .before .pre in
+    (pre .0, pre .1, pre .2, headed (c .before) .taken .within, pre .3)
 
 returns : tie.Need-returns
 returns c =
-    let a = c .before .before .before .before .before .before .before .before .before .before .before .before .before .before .args in
-    let m = heldIn (a .layout) (a .live) (a .work .now) in
-    let rows = rowsIn (a .layout) (a .work .now) in
-    let v = told-end readVersion (a .text .now) 0 _ _ (c .before .before .before .before .before .before .before .before .before .heading .given .1) (c .before .before .before .before .before .before .before .before .before .before .before .version-end .ensures) in
-    let g = told-end readGrounder (a .text .now) (c .before .before .before .before .before .before .before .before .before .heading .given .0 .0) _ _ (c .before .before .before .before .before .at .given .1) (c .before .before .before .before .before .before .before .grounder-end .ensures) in
-    c .before .before .replay-lines .ensures m _ (grounder-on (a .table) rows m (a .text .now) _ v _ g)
+    let start = c .before .before .before .before .before .before .before .before .before .before .before .before .before .before in
+    c .before .before .replay-lines .ensures (memory start) _ (grounder-on (start .args .table) (rows start) (memory start) (start .args .text .now) _ (versioned (c .before .before .before .before .before .before .before .before)) _ (headed (c .before .before .before .before)))
 
 returns-2 : tie.Need-returns-2
 returns-2 c =
-    let a = c .before .before .before .before .before .before .before .before .before .args in
-    let m = heldIn (a .layout) (a .live) (a .work .now) in
-    let rows = rowsIn (a .layout) (a .work .now) in
-    let v = told-end readVersion (a .text .now) 0 _ _ (c .before .before .before .before .heading .given .1) (c .before .before .before .before .before .before .version-end .ensures) in
-    grounder-refused (a .table) rows m (a .text .now) _ v (told-end readGrounder (a .text .now) (c .before .before .before .before .heading .given .0 .0) _ _ (c .enum-told .given .1) (c .before .before .grounder-end .ensures))
+    let start = c .before .before .before .before .before .before .before .before .before in
+    grounder-refused (start .args .table) (rows start) (memory start) (start .args .text .now) _ (versioned (c .before .before .before)) (rw (c .enum-told .given .1) at (c .before .before .grounder-end .ensures))
 
 returns-3 : tie.Need-returns-3
 returns-3 c =
-    let a = c .before .before .before .before .before .args in
-    let m = heldIn (a .layout) (a .live) (a .work .now) in
-    let rows = rowsIn (a .layout) (a .work .now) in
-    version-refused (a .table) rows m (a .text .now) (told-end readVersion (a .text .now) 0 _ _ (c .enum-told2 .given .1) (c .before .before .version-end .ensures))
+    let start = c .before .before .before .before .before in
+    version-refused (start .args .table) (rows start) (memory start) (start .args .text .now) (rw (c .enum-told2 .given .1) at (c .before .before .version-end .ensures))
 
 pub replay-text-spec : {M : Type 1} → statement M
 replay-text-spec =

@@ -2,51 +2,77 @@
 -- Assumes nothing.
 use borrow.Author.Needs.{needs}
 use native.Mathlib.Omega.{arith}
-use Prim.Native.Nat.{_-_}
-use mathlib.Core.Path.{sym, ap, _∙_}
-use lib.ListN.{take, drop}
+use Prim.Native.Nat.{ℕ, _-_, _<_}
+use mathlib.Core.Path.{_≡_, sym, ap, subst, _∙_}
+use mathlib.Core.List.{List}
+use lib.ListN.{length, take, drop}
 use lib.Seq.{length-take-le}
 use Rattle.formula.specs.memory.Deciding.{ruleFit}
+use Rattle.formula.specs.declared.decide.Fit.the-variants as fit
 use Rattle.replay.specs.memory.Held.{misfit}
+use Rattle.replay.specs.memory.Steps.{Flagged}
 use Rattle.replay.proofs.Regions.{slice-part}
-use Rattle.replay.proofs.Decisions.{quantifier-here, flagged-rows}
+use Rattle.replay.proofs.Decisions.{fit-here}
 use Rattle.replay.proofs.rewriting.decision_at.Statement.{statement}
 use Rattle.replay.proofs.rewriting.decision_at.Tie as tie
 
+-- the theory's words, and the rows as the code takes them
+module _ (start : tie.Start) where
+  abbrev words : List ℕ
+  words = take (start .args .live .full) (start .args .work .now)
+
+  abbrev rows : List ℕ
+  rows = take (start .args .layout .names - start .args .layout .rows) (drop (start .args .layout .rows) (start .args .work .now))
+
+  words-long : length words ≡ start .args .live .full
+  words-long = length-take-le (start .args .live .full) (start .args .work .now) (omega (arith, start .pre .0, start .pre .1))
+
+-- a quantifier stands in the theory
+here : (c : tie.After-rule-fit) → c .rule-fit .result ≡ fit.Quantifier → let start = c .before .before .before .before in start .args .at < length (words start)
+here c e =
+    let start = c .before .before .before .before in
+    fit-here (start .args .table) (rows start) (start .args .rule) (words start) (start .args .at)
+    (λ m. let z : _≡_ {A = ℕ} 0 1 = cc (e, m, c .rule-fit .ensures) in omega arith)
+
 slice-aggregate-rule-fit : tie.Need-slice-aggregate-rule-fit
-slice-aggregate-rule-fit c = sym (length-take-le (c .before .before .args .live .full) (c .before .before .args .work .now) (omega (arith, c .before .before .pre .0, c .before .before .pre .1)))
+slice-aggregate-rule-fit c = sym (words-long (c .before .before))
 
 rule-fit-requires : tie.Need-rule-fit-requires
 rule-fit-requires c κs =
-    let l = length-take-le (c .before .before .before .args .live .full) (c .before .before .before .args .work .now) (omega (arith, c .before .before .before .pre .0, c .before .before .before .pre .1)) in
-    omega (arith, c .before .before .before .pre .0, c .before .before .before .pre .1, c .before .before .before .pre .2, c .before .before .before .pre .3, l)
+    let pre = c .before .before .before .pre in
+    omega (arith, pre .0, pre .1, pre .2, pre .3, words-long (c .before .before .before))
 
 slice-aggregate-misfit-of : tie.Need-slice-aggregate-misfit-of
-slice-aggregate-misfit-of c = sym (length-take-le (c .before .before .before .before .before .args .live .full) (c .before .before .before .before .before .args .work .now) (omega (arith, c .before .before .before .before .before .pre .0, c .before .before .before .before .before .pre .1)))
+slice-aggregate-misfit-of c =
+    let before = c .before .before .before .before .before in
+    sym (words-long (before))
 
 misfit-of-requires : tie.Need-misfit-of-requires
 misfit-of-requires c κs =
-    let l = length-take-le (c .before .before .before .before .before .args .live .full) (c .before .before .before .before .before .args .work .now) (omega (arith, c .before .before .before .before .before .pre .0, c .before .before .before .before .before .pre .1)) in
-    (omega (arith, c .before .before .before .before .before .pre .0, c .before .before .before .before .before .pre .1, l), quantifier-here (c .before .before .before .before .before .args .table) (take (c .before .before .before .before .before .args .layout .names - c .before .before .before .before .before .args .layout .rows) (drop (c .before .before .before .before .before .args .layout .rows) (c .before .before .before .before .before .args .work .now))) (c .before .before .before .before .before .args .rule) (take (c .before .before .before .before .before .args .live .full) (c .before .before .before .before .before .args .work .now)) (c .before .before .before .before .before .args .at) (c .before .rule-fit .result) (c .before .rule-fit .ensures))
+    let pre = c .before .before .before .before .before .pre in
+    (omega (arith, pre .0, pre .1, words-long (c .before .before .before .before .before)), here (c .before))
 
 slice-aggregate-flags-for : tie.Need-slice-aggregate-flags-for
-slice-aggregate-flags-for c = sym (length-take-le (c .before .before .before .before .before .before .before .args .live .full) (c .before .before .before .before .before .before .before .args .work .now) (omega (arith, c .before .before .before .before .before .before .before .pre .0, c .before .before .before .before .before .before .before .pre .1)))
+slice-aggregate-flags-for c =
+    let before = c .before .before .before .before .before .before .before in
+    sym (words-long (before))
 
 flags-for-requires : tie.Need-flags-for-requires
 flags-for-requires c κs =
-    let l = length-take-le (c .before .before .before .before .before .before .before .before .args .live .full) (c .before .before .before .before .before .before .before .before .args .work .now) (omega (arith, c .before .before .before .before .before .before .before .before .pre .0, c .before .before .before .before .before .before .before .before .pre .1)) in
-    (quantifier-here (c .before .before .before .before .before .before .before .before .args .table) (take (c .before .before .before .before .before .before .before .before .args .layout .names - c .before .before .before .before .before .before .before .before .args .layout .rows) (drop (c .before .before .before .before .before .before .before .before .args .layout .rows) (c .before .before .before .before .before .before .before .before .args .work .now))) (c .before .before .before .before .before .before .before .before .args .rule) (take (c .before .before .before .before .before .before .before .before .args .live .full) (c .before .before .before .before .before .before .before .before .args .work .now)) (c .before .before .before .before .before .before .before .before .args .at) (c .before .before .before .before .rule-fit .result) (c .before .before .before .before .rule-fit .ensures), omega (arith, c .before .before .before .before .before .before .before .before .pre .0, c .before .before .before .before .before .before .before .before .pre .1, l), c .before .before .before .before .before .before .before .before .pre .2)
+    let pre = c .before .before .before .before .before .before .before .before .pre in
+    (here (c .before .before .before .before), omega (arith, pre .0, pre .1, words-long (c .before .before .before .before .before .before .before .before)), pre .2)
 
 returns : tie.Need-returns
 returns c =
-    let a = c .before .before .before .before .before .before .before .before .before .args in
-    let part = slice-part (a .work .now) (a .layout .rows) (a .layout .names) (omega (arith, c .before .before .before .before .before .before .before .before .before .pre .0)) in
-    let words = take (a .live .full) (a .work .now) in
-    let is = c .before .before .before .before .before .rule-fit .ensures ∙ ap (λ rows. ruleFit (a .table) rows (a .rule) (drop (a .at) words)) part in
+    let start = c .before .before .before .before .before .before .before .before .before in
+    let a = start .args in
+    let part = slice-part (a .work .now) (a .layout .rows) (a .layout .names) (omega (arith, start .pre .0)) in
+    let rest = drop (a .at) (words start) in
+    let is = c .before .before .before .before .before .rule-fit .ensures ∙ ap (λ rows. ruleFit (a .table) rows (a .rule) rest) part in
     record {
       is = is;
-      numbered = c .before .before .before .misfit-of .ensures ∙ ap (λ d. misfit d (drop (a .at) words)) is;
-      flagged = flagged-rows (a .table) _ _ part (drop (a .at) words) (c .before .before .before .before .before .rule-fit .result) (c .flags-for .result) (c .flags-for .ensures);
+      numbered = c .before .before .before .misfit-of .ensures ∙ ap (λ d. misfit d rest) is;
+      flagged = subst (λ rows. Flagged (a .table) rows rest (c .before .before .before .before .before .rule-fit .result) (c .flags-for .result)) part (c .flags-for .ensures);
     }
 
 pub decision-at-spec : {M : Type 1} → statement M

@@ -1,25 +1,25 @@
 -- `rewriting::flags_for`: the guard's elements for a quantifier; nothing is asked of the flags for other decisions.
 -- Assumes nothing.
 use borrow.Author.Needs.{needs}
-use lib.ListN.{drop}
-use Rattle.replay.proofs.Decisions.{flagged-as}
 use Rattle.replay.proofs.rewriting.flags_for.Statement.{statement}
 use Rattle.replay.proofs.rewriting.flags_for.Tie as tie
 
 admitted-requires : tie.Need-admitted-requires
-admitted-requires c κs = (c .before .before .before .before .pre .0 (c .enum-told3 .given .1), c .before .before .before .before .pre .1, c .before .before .before .before .pre .2)
+admitted-requires c κs =
+    let pre = c .before .before .before .before .pre in
+    (pre .0 (c .enum-told3 .given .1), pre .1, pre .2)
 
 returns : tie.Need-returns
-returns c = flagged-as (c .before .before .before .before .args .table) (c .before .before .before .before .args .rows .now) (drop (c .before .before .before .before .args .at) (c .before .before .before .before .args .words .now)) _ _ _ (c .enum-told .given .1) tt
+returns c = rw (c .enum-told .given .1) tt
 
 returns-2 : tie.Need-returns-2
-returns-2 c = flagged-as (c .before .before .before .before .args .table) (c .before .before .before .before .args .rows .now) (drop (c .before .before .before .before .args .at) (c .before .before .before .before .args .words .now)) _ _ _ (c .enum-told2 .given .1) tt
+returns-2 c = rw (c .enum-told2 .given .1) tt
 
 returns-3 : tie.Need-returns-3
-returns-3 c = flagged-as (c .before .before .before .before .before .args .table) (c .before .before .before .before .before .args .rows .now) (drop (c .before .before .before .before .before .args .at) (c .before .before .before .before .before .args .words .now)) _ _ _ (c .before .enum-told3 .given .1) (c .admitted .ensures)
+returns-3 c = rw (c .before .enum-told3 .given .1) (c .admitted .ensures)
 
 returns-4 : tie.Need-returns-4
-returns-4 c = flagged-as (c .before .before .before .before .args .table) (c .before .before .before .before .args .rows .now) (drop (c .before .before .before .before .args .at) (c .before .before .before .before .args .words .now)) _ _ _ (c .enum-told4 .given .1) tt
+returns-4 c = rw (c .enum-told4 .given .1) tt
 
 pub flags-for-spec : {M : Type 1} → statement M
 flags-for-spec =

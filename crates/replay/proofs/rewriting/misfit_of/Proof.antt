@@ -5,7 +5,9 @@ use Rattle.replay.proofs.rewriting.misfit_of.Statement.{statement}
 use Rattle.replay.proofs.rewriting.misfit_of.Tie as tie
 
 guard-closed-requires : tie.Need-guard-closed-requires
-guard-closed-requires c κs = (c .before .before .before .pre .1 (c .enum-told3 .given .1), c .before .before .before .pre .0)
+guard-closed-requires c κs =
+    let start = c .before .before .before in
+    (start .pre .1 (c .enum-told3 .given .1), start .pre .0)
 
 returns : tie.Need-returns
 returns c = rw (c .before .before .enum-told3 .given .1, ← c .before .guard-closed .ensures, c .if1 .taken)

@@ -9,24 +9,31 @@ use Rattle.replay.proofs.Moves.{rewritten-over, rewritten-moved}
 use Rattle.replay.proofs.rewriting.replaced.Statement.{statement}
 use Rattle.replay.proofs.rewriting.replaced.Tie as tie
 
+front-long : (start : tie.Start) → length (take (start .args .layout .rows) (start .args .work .now)) ≡ start .args .layout .rows
+front-long start = length-take-le (start .args .layout .rows) (start .args .work .now) (omega (arith, start .pre .0))
+
 slice-aggregate-front-rewritten : tie.Need-slice-aggregate-front-rewritten
-slice-aggregate-front-rewritten c = sym (length-take-le (c .before .before .args .layout .rows) (c .before .before .args .work .now) (omega (arith, c .before .before .pre .0)))
+slice-aggregate-front-rewritten c = sym (front-long (c .before .before))
 
 front-rewritten-requires : tie.Need-front-rewritten-requires
 front-rewritten-requires c κs =
-    let l = length-take-le (c .before .before .args .layout .rows) (c .before .before .args .work .now) (omega (arith, c .before .before .pre .0)) in
-    (record { here = c .before .before .pre .2; apart = omega (arith, c .before .before .pre .0, c .before .before .pre .1); room = omega (arith, c .before .before .pre .0, l); long = omega (arith, c .before .before .pre .0, l) }, c .before .before .pre .3)
+    let pre = c .before .before .pre in
+    let long = front-long (c .before .before) in
+    (record { here = pre .2; apart = omega (arith, pre .0, pre .1); room = omega (arith, pre .0, long); long = omega (arith, pre .0, long) }, pre .3)
 
 returns : tie.Need-returns
 returns c =
     let a = c .before .before .before .before .before .before .args in
-    rewritten-over (a .layout) (a .live) (a .work .now) (c .before .before .before .before .before .before .pre .0) (c .before .before .before .before .before .before .pre .1) (a .at) (c .before .before .before .before .before .before .pre .2) (a .fit) (take (a .domain) (a .flags)) _ _ (c .before .before .before .front-rewritten .ensures) (c .if1 .taken)
+    let pre = c .before .before .before .before .before .before .pre in
+    rewritten-over (a .layout) (a .live) (a .work .now) (pre .0) (pre .1) (a .at) (pre .2) (a .fit) (take (a .domain) (a .flags)) _ _ (c .before .before .before .front-rewritten .ensures) (c .if1 .taken)
 
 returns-2 : tie.Need-returns-2
 returns-2 c =
+    let front = c .before .before .before .front-rewritten in
     let a = c .before .before .before .before .before .before .args in
-    let same : length (c .before .before .before .front-rewritten .last .0) ≡ length (take (a .layout .rows) (a .work .now)) = search needs in
-    rewritten-moved (a .layout) (a .live) (a .work .now) (c .before .before .before .before .before .before .pre .0) (c .before .before .before .before .before .before .pre .1) (a .at) (c .before .before .before .before .before .before .pre .2) (a .fit) (take (a .domain) (a .flags)) _ _ (c .before .before .before .front-rewritten .ensures) same (c .if1 .left)
+    let pre = c .before .before .before .before .before .before .pre in
+    let same : length (front .last .0) ≡ length (take (a .layout .rows) (a .work .now)) = search needs in
+    rewritten-moved (a .layout) (a .live) (a .work .now) (pre .0) (pre .1) (a .at) (pre .2) (a .fit) (take (a .domain) (a .flags)) _ _ (front .ensures) same (c .if1 .left)
 
 pub replaced-spec : {M : Type 1} → statement M
 replaced-spec =

@@ -2,49 +2,55 @@
 -- Assumes nothing.
 use borrow.Author.Needs.{needs}
 use native.Mathlib.Omega.{arith}
-use mathlib.Core.Path.{sym}
+use mathlib.Core.Path.{ap}
+use mathlib.Core.Bool.{not}
+use Rattle.text.specs.Derivation.{Position}
 use Rattle.text.specs.memory.RuleLines.{positionAt}
-use Rattle.replay.specs.memory.Held.{targetIn}
-use Rattle.replay.specs.memory.Steps.{heldIn, rowsIn}
-use Rattle.replay.proofs.Moves.{told-as}
-use Rattle.replay.proofs.Targets.{told-at, told-refused}
-use Rattle.replay.proofs.Decisions.{rewritten-refused, rewritten-ended, rewritten-made}
+use Rattle.replay.specs.memory.Held.{Held, targetIn, rewrittenIn}
+use Rattle.replay.specs.memory.Steps.{heldIn, ToldTarget}
+use Rattle.replay.specs.declared.target.Target.the-variants as target
 use Rattle.replay.proofs.rewriting.rewritten.Statement.{statement}
 use Rattle.replay.proofs.rewriting.rewritten.Tie as tie
 
+-- what memory holds, and where the line points
+module _ (start : tie.Start) where
+  abbrev memory : Held
+  memory = heldIn (start .args .layout) (start .args .live) (start .args .work .now)
+
+  abbrev position : Position
+  position = positionAt (start .args .text .now) (start .args .name) (start .args .path) (start .args .steps)
+
+-- the target is found
+aimed : (c : tie.After-known-told) → let start = c .before .before .before .before .before .before .before in let place = c .before .at .given .0 in ToldTarget (targetIn (memory start) (position start)) (start .args .live) (target.At (place .0) (place .1 .0))
+aimed c = rw (c .before .at .given .1) at (c .before .before .before .path-target .ensures)
+
 path-target-requires : tie.Need-path-target-requires
-path-target-requires c κs = omega (arith, c .before .before .before .pre .0, c .before .before .before .pre .1, c .before .before .before .pre)
+path-target-requires c κs =
+    let pre = c .before .before .before .pre in
+    omega (arith, pre .0, pre .1, pre)
 
 returns : tie.Need-returns
-returns c =
-    let a = c .before .before .before .before .before .before .before .before .args in
-    let m = heldIn (a .layout) (a .live) (a .work .now) in
-    let p = positionAt (a .text .now) (a .name) (a .path) (a .steps) in
-    let t = told-at (targetIn m p) (a .live) _ (c .before .before .before .before .path-target .ensures) _ _ (c .before .before .at .given .1) in
-    rewritten-ended (a .table) (rowsIn (a .layout) (a .work .now)) m (a .rule) p _ (t .0) (c .if1 .taken)
+unfolding rewrittenIn
+returns c = rw (aimed (c .before) .0, c .if1 .taken)
 
 rewritten-at-requires : tie.Need-rewritten-at-requires
 rewritten-at-requires c κs =
-    let a = c .before .before .before .before .before .before .before .before .before .args in
-    let m = heldIn (a .layout) (a .live) (a .work .now) in
-    let p = positionAt (a .text .now) (a .name) (a .path) (a .steps) in
-    let t = told-at (targetIn m p) (a .live) _ (c .before .before .before .before .before .path-target .ensures) _ _ (c .before .before .before .at .given .1) in
-    (c .before .before .before .before .before .before .before .before .before .pre .0, c .before .before .before .before .before .before .before .before .before .pre .1, omega (arith, t .1 .1), c .before .before .before .before .before .before .before .before .before .pre .2)
+    let pre = c .before .before .before .before .before .before .before .before .before .pre in
+    (pre .0, pre .1, omega (arith, aimed (c .before .before) .1 .1), pre .2)
 
 returns-2 : tie.Need-returns-2
+unfolding rewrittenIn
 returns-2 c =
-    let a = c .before .before .before .before .before .before .before .before .before .before .before .before .args in
-    let m = heldIn (a .layout) (a .live) (a .work .now) in
-    let p = positionAt (a .text .now) (a .name) (a .path) (a .steps) in
-    let t = told-at (targetIn m p) (a .live) _ (c .before .before .before .before .before .before .before .before .path-target .ensures) _ _ (c .before .before .before .before .before .before .at .given .1) in
-    told-as _ _ (a .layout) (a .work .now) (c .before .before .rewritten-at .result) (c .before .before .rewritten-at .last .0) (sym (rewritten-made (a .table) (rowsIn (a .layout) (a .work .now)) m (a .rule) p _ (t .0) (c .before .before .before .before .if1 .left))) (c .before .before .rewritten-at .ensures)
+    let before = c .before .before .before .before .before in
+    let if1 = c .before .before .before .before .if1 in
+    rw (aimed (before) .0, ap not (if1 .left)) (c .before .before .rewritten-at .ensures)
 
 returns-3 : tie.Need-returns-3
+unfolding rewrittenIn
 returns-3 c =
-    let a = c .before .before .before .before .before .before .before .args in
-    let m = heldIn (a .layout) (a .live) (a .work .now) in
-    let p = positionAt (a .text .now) (a .name) (a .path) (a .steps) in
-    rewritten-refused (a .table) (rowsIn (a .layout) (a .work .now)) m (a .rule) p _ (told-refused (targetIn m p) (a .live) _ (c .before .before .before .path-target .ensures) _ (c .before .number .given .1))
+    let path-target = c .before .before .before .path-target in
+    let t = rw (c .before .number .given .1) at (path-target .ensures) in
+    rw t
 
 pub rewritten-spec : {M : Type 1} → statement M
 rewritten-spec =

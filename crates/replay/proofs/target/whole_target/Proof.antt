@@ -1,46 +1,57 @@
 -- `target::whole_target`: the target, if the path is empty and UNSAT was not.
 -- Assumes nothing.
 use borrow.Author.Needs.{needs}
+use mathlib.Core.Path.{_≡_}
+use mathlib.Core.Bool.{true}
 use lib.ListN.{take, drop}
+use Rattle.text.specs.Derivation.{Position}
 use Rattle.text.specs.memory.RuleLines.{positionAt}
-use Rattle.replay.specs.memory.Held.{held, targetIn}
-use Rattle.replay.proofs.Targets.{told-at, told-refused, whole-refused, whole-path, whole-ended, whole-at, steps-none, steps-some}
+use Rattle.replay.specs.memory.Held.{Held, held, targetIn, isEmpty, wholeIn}
+use Rattle.replay.specs.memory.Steps.{ToldTarget}
+use Rattle.replay.specs.declared.target.Target.the-variants as target
+use Rattle.replay.proofs.Targets.{steps-none, steps-some}
 use Rattle.replay.proofs.target.whole_target.Statement.{statement}
 use Rattle.replay.proofs.target.whole_target.Tie as tie
+
+-- what memory holds, and where the line points
+module _ (start : tie.Start) where
+  abbrev memory : Held
+  memory = held (take (start .args .live .full) (start .args .work .now)) (take (start .args .live .count) (drop (start .args .names) (start .args .work .now))) (start .args .live .top) (start .args .live .ended)
+
+  abbrev position : Position
+  position = positionAt (start .args .text .now) (start .args .name) (start .args .path) (start .args .steps)
+
+-- the path's target is found
+aimed : (c : tie.After-known-told) → let start = c .before .before .before .before .before .before in let place = c .before .index .given .0 in ToldTarget (targetIn (memory start) (position start)) (start .args .live) (target.At (place .0) (place .1 .0))
+aimed c = rw (c .before .index .given .1) at (c .before .before .before .path-target .ensures)
+
+-- the path is empty
+no-steps : (c : tie.Else1) → isEmpty (position (c .before .before .before .before .before .before .before) .path) ≡ true
+no-steps c = steps-none (c .before .before .before .before .before .before .before .args .text .now) (c .before .before .before .before .before .before .before .args .path) (c .before .before .before .before .before .before .before .args .steps) (c .if1 .left)
 
 path-target-requires : tie.Need-path-target-requires
 path-target-requires c κs = c .before .before .pre
 
 returns : tie.Need-returns
+unfolding wholeIn
 returns c =
-    let a = c .before .before .before .before .before .before .before .args in
-    let m = held (take (a .live .full) (a .work .now)) (take (a .live .count) (drop (a .names) (a .work .now))) (a .live .top) (a .live .ended) in
-    let p = positionAt (a .text .now) (a .name) (a .path) (a .steps) in
-    let t = told-at (targetIn m p) (a .live) _ (c .before .before .before .before .path-target .ensures) _ _ (c .before .before .index .given .1) in
-    whole-path m p _ (t .0) (steps-some (a .text .now) (a .path) (a .steps) (c .if1 .taken))
+    let start = c .before .before .before .before .before .before .before in
+    rw (aimed (c .before) .0, steps-some (start .args .text .now) (start .args .path) (start .args .steps) (c .if1 .taken))
 
 returns-2 : tie.Need-returns-2
-returns-2 c =
-    let a = c .before .before .before .before .before .before .before .before .args in
-    let m = held (take (a .live .full) (a .work .now)) (take (a .live .count) (drop (a .names) (a .work .now))) (a .live .top) (a .live .ended) in
-    let p = positionAt (a .text .now) (a .name) (a .path) (a .steps) in
-    let t = told-at (targetIn m p) (a .live) _ (c .before .before .before .before .before .path-target .ensures) _ _ (c .before .before .before .index .given .1) in
-    whole-ended m p _ (t .0) (steps-none (a .text .now) (a .path) (a .steps) (c .before .if1 .left)) (c .if2 .taken)
+unfolding wholeIn
+returns-2 c = rw (aimed (c .before .before) .0, no-steps (c .before), c .if2 .taken)
 
 returns-3 : tie.Need-returns-3
-returns-3 c =
-    let a = c .before .before .before .before .before .before .before .before .args in
-    let m = held (take (a .live .full) (a .work .now)) (take (a .live .count) (drop (a .names) (a .work .now))) (a .live .top) (a .live .ended) in
-    let p = positionAt (a .text .now) (a .name) (a .path) (a .steps) in
-    let t = told-at (targetIn m p) (a .live) _ (c .before .before .before .before .before .path-target .ensures) _ _ (c .before .before .before .index .given .1) in
-    (whole-at m p _ (t .0) (steps-none (a .text .now) (a .path) (a .steps) (c .before .if1 .left)) (c .if2 .left), t .1)
+unfolding wholeIn
+returns-3 c = (rw (aimed (c .before .before) .0, no-steps (c .before), c .if2 .left), aimed (c .before .before) .1)
 
 returns-4 : tie.Need-returns-4
+unfolding wholeIn
 returns-4 c =
-    let a = c .before .before .before .before .before .before .args in
-    let m = held (take (a .live .full) (a .work .now)) (take (a .live .count) (drop (a .names) (a .work .now))) (a .live .top) (a .live .ended) in
-    let p = positionAt (a .text .now) (a .name) (a .path) (a .steps) in
-    whole-refused m p _ (told-refused (targetIn m p) (a .live) _ (c .before .before .before .path-target .ensures) _ (c .before .number .given .1))
+    let path-target = c .before .before .before .path-target in
+    let t = rw (c .before .number .given .1) at (path-target .ensures) in
+    rw t
 
 pub whole-target-spec : {M : Type 1} → statement M
 whole-target-spec =

@@ -1,28 +1,36 @@
 -- `whole::is_split`: by the kind of the word.
 -- Assumes nothing.
 use borrow.Author.Needs.{needs}
-use mathlib.Core.Path.{sym, ap, _∙_}
+use mathlib.Core.Path.{_≡_, sym, ap, _∙_}
+use Rattle.formula.specs.memory.Kinds.{kindOf}
+use Rattle.formula.specs.declared.word.Kind.{Kind}
 use Rattle.replay.specs.memory.Held.{isSplit}
 use Rattle.replay.proofs.whole.is_split.Statement.{statement}
 use Rattle.replay.proofs.whole.is_split.Tie as tie
 
+-- the answer, by what the kind is
+told : (c : tie.After-kind-of) (kind : Kind) → c .kind-of .result ≡ kind → isSplit kind (c .before .args .many) ≡ isSplit (kindOf (c .before .args .word)) (c .before .args .many)
+told c kind e = ap (λ k. isSplit k (c .before .args .many)) (sym e ∙ c .kind-of .ensures)
+
 returns : tie.Need-returns
-returns c = sym (ap (λ k. isSplit k (c .before .before .before .args .many)) (sym (c .before .before .kind-of .ensures) ∙ c .enum-told .given .1))
+returns c = told (c .before .before) _ (c .enum-told .given .1)
 
 returns-2 : tie.Need-returns-2
-returns-2 c = sym (ap (λ k. isSplit k (c .before .before .before .args .many)) (sym (c .before .before .kind-of .ensures) ∙ c .enum-told2 .given .1))
+returns-2 c = told (c .before .before) _ (c .enum-told2 .given .1)
 
 returns-3 : tie.Need-returns-3
-returns-3 c = sym (ap (λ k. isSplit k (c .before .before .before .args .many)) (sym (c .before .before .kind-of .ensures) ∙ c .enum-told3 .given .1))
+returns-3 c = told (c .before .before) _ (c .enum-told3 .given .1)
 
 returns-4 : tie.Need-returns-4
-returns-4 c = c .is-conjunction .ensures ∙ sym (ap (λ k. isSplit k (c .before .before .before .before .before .args .many)) (sym (c .before .before .before .before .kind-of .ensures) ∙ c .before .before .sign .given .1))
+returns-4 c =
+    let before = c .before .before .before .before in
+    c .is-conjunction .ensures ∙ told (before) _ (c .before .before .sign .given .1)
 
 returns-5 : tie.Need-returns-5
-returns-5 c = sym (ap (λ k. isSplit k (c .before .before .before .args .many)) (sym (c .before .before .kind-of .ensures) ∙ c .enum-told4 .given .1))
+returns-5 c = told (c .before .before) _ (c .enum-told4 .given .1)
 
 returns-6 : tie.Need-returns-6
-returns-6 c = sym (ap (λ k. isSplit k (c .before .before .before .args .many)) (sym (c .before .before .kind-of .ensures) ∙ c .enum-told5 .given .1))
+returns-6 c = told (c .before .before) _ (c .enum-told5 .given .1)
 
 pub is-split-spec : {M : Type 1} → statement M
 is-split-spec =

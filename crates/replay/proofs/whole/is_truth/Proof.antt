@@ -4,8 +4,8 @@ use borrow.Author.Needs.{needs}
 use mathlib.Core.Path.{_≡_, sym, ap, _∙_}
 use Rattle.formula.specs.memory.Kinds.{kindOf}
 use Rattle.formula.specs.declared.word.Kind.{Kind}
+use Rattle.text.proofs.Laws.{beq-true, beq-false}
 use Rattle.replay.specs.memory.Held.{isValue}
-use Rattle.replay.proofs.Splits.{value-true, value-false}
 use Rattle.replay.proofs.whole.is_truth.Statement.{statement}
 use Rattle.replay.proofs.whole.is_truth.Tie as tie
 
@@ -14,10 +14,16 @@ told : (c : tie.After-kind-of) (kind : Kind) → c .kind-of .result ≡ kind →
 told c kind e = ap (isValue (c .before .args .value)) (sym e ∙ c .kind-of .ensures)
 
 returns : tie.Need-returns
-returns c = value-true _ _ _ (sym (c .before .before .before .before .kind-of .ensures) ∙ c .before .before .b .given .1) (c .if1 .taken)
+returns c =
+    let b = c .before .before .b in
+    let before = c .before .before .before .before in
+    rw (← told (before) _ (b .given .1), c .if1 .taken) (beq-true (b .given .0 .0))
 
 returns-2 : tie.Need-returns-2
-returns-2 c = value-false _ _ _ (sym (c .before .before .before .before .kind-of .ensures) ∙ c .before .before .b .given .1) (c .if1 .left)
+returns-2 c =
+    let b = c .before .before .b in
+    let before = c .before .before .before .before in
+    rw (← told (before) _ (b .given .1), c .if1 .left) (beq-false (b .given .0 .0))
 
 returns-3 : tie.Need-returns-3
 returns-3 c = told (c .before .before) _ (c .enum-told .given .1)

@@ -2,16 +2,37 @@
 -- Assumes nothing.
 use borrow.Author.Needs.{needs}
 use native.Mathlib.Omega.{arith}
-use mathlib.Core.Path.{sym}
+use mathlib.Core.Path.{_≡_}
+use mathlib.Core.Bool.{Bool, true, false}
+use lib.ListN.{getD}
 use borrow.Author.Tests.{not-true, not-false}
+use Rattle.text.specs.Derivation.{Position}
 use Rattle.text.specs.memory.RuleLines.{positionAt}
-use Rattle.replay.specs.memory.Held.{wholeIn}
-use Rattle.replay.specs.memory.Steps.{heldIn}
-use Rattle.replay.proofs.Targets.{told-at, told-refused}
-use Rattle.replay.proofs.Splits.{refuted-refused, refuted-other, refuted-false}
-use Rattle.replay.proofs.Moves.{moved-as}
+use Rattle.formula.specs.memory.Kinds.{kindOf}
+use Rattle.replay.specs.memory.Held.{Held, wholeIn, isValue, refutedIn}
+use Rattle.replay.specs.memory.Steps.{heldIn, ToldTarget}
+use Rattle.replay.specs.declared.target.Target.the-variants as target
 use Rattle.replay.proofs.whole.refuted.Statement.{statement}
 use Rattle.replay.proofs.whole.refuted.Tie as tie
+
+-- what memory holds, and where the line points
+module _ (start : tie.Start) where
+  abbrev memory : Held
+  memory = heldIn (start .args .layout) (start .args .live) (start .args .work .now)
+
+  abbrev position : Position
+  position = positionAt (start .args .text .now) (start .args .name) (start .args .path) (start .args .steps)
+
+-- the target is found, and whether it is `false` is told
+module _ (c : tie.After-is-truth) where
+  abbrev begun : tie.Start
+  begun = c .before .before .before .before .before .before .before .before .before .before
+
+  aimed : let place = c .before .before .before .before .at .given .0 in ToldTarget (wholeIn (memory begun) (position begun)) (begun .args .live) (target.At (place .0) (place .1 .0))
+  aimed = rw (c .before .before .before .before .at .given .1) at (c .before .before .before .before .before .before .whole-target .ensures)
+
+  value : (b : Bool) → c .is-truth .result ≡ b → isValue false (kindOf (getD (memory begun .words) (c .before .before .before .before .at .given .0 .1 .0) 0)) ≡ b
+  value b e = rw (← c .before .word-at .ensures, ← c .is-truth .ensures) e
 
 whole-target-requires : tie.Need-whole-target-requires
 whole-target-requires c κs =
@@ -24,41 +45,25 @@ word-at-requires c κs =
     omega (arith, start .pre .0, start .pre .1)
 
 returns : tie.Need-returns
-returns c =
-    let at-told = c .before .before .before .before .before .at in
-    let whole-target = c .before .before .before .before .before .before .before .whole-target in
-    let start = c .before .before .before .before .before .before .before .before .before .before .before in
-    let a = start .args in
-    let m = heldIn (a .layout) (a .live) (a .work .now) in
-    let p = positionAt (a .text .now) (a .name) (a .path) (a .steps) in
-    let t = told-at (wholeIn m p) (a .live) _ (whole-target .ensures) _ _ (at-told .given .1) in
-    refuted-other m p _ (t .0) (rw (← c .before .before .word-at .ensures, ← c .before .is-truth .ensures) (not-true _ (c .if1 .taken)))
+unfolding refutedIn
+returns c = rw (aimed (c .before) .0, value (c .before) false (not-true _ (c .if1 .taken)))
 
 falsified-requires : tie.Need-falsified-requires
-falsified-requires c κs = c .before .before .before .before .before .before .before .before .before .before .before .before .pre .0
+falsified-requires c κs = begun (c .before .before) .pre .0
 
 returns-2 : tie.Need-returns-2
+unfolding refutedIn
 returns-2 c =
-    let falsified = c .before .before .falsified in
+    let before = c .before .before .before .before .before in
     let if1 = c .before .before .before .before .if1 in
-    let is-truth = c .before .before .before .before .before .is-truth in
-    let word-at = c .before .before .before .before .before .before .word-at in
-    let at-told = c .before .before .before .before .before .before .before .before .before .at in
-    let whole-target = c .before .before .before .before .before .before .before .before .before .before .before .whole-target in
-    let start = c .before .before .before .before .before .before .before .before .before .before .before .before .before .before .before in
-    let a = start .args in
-    let m = heldIn (a .layout) (a .live) (a .work .now) in
-    let p = positionAt (a .text .now) (a .name) (a .path) (a .steps) in
-    let t = told-at (wholeIn m p) (a .live) _ (whole-target .ensures) _ _ (at-told .given .1) in
-    moved-as _ _ (a .layout) (a .work .now) (falsified .result) (falsified .last .0)
-    (sym (refuted-false m p _ (t .0) (rw (← word-at .ensures, ← is-truth .ensures) (not-false _ (if1 .left))))) (falsified .ensures)
+    rw (aimed (before) .0, value (before) true (not-false _ (if1 .left))) (c .before .before .falsified .ensures)
 
 returns-3 : tie.Need-returns-3
+unfolding refutedIn
 returns-3 c =
-    let a = c .before .before .before .before .before .before .before .args in
-    let m = heldIn (a .layout) (a .live) (a .work .now) in
-    let p = positionAt (a .text .now) (a .name) (a .path) (a .steps) in
-    refuted-refused m p _ (told-refused (wholeIn m p) (a .live) _ (c .before .before .before .whole-target .ensures) _ (c .before .number .given .1))
+    let whole-target = c .before .before .before .whole-target in
+    let t = rw (c .before .number .given .1) at (whole-target .ensures) in
+    rw t
 
 pub refuted-spec : {M : Type 1} → statement M
 refuted-spec =

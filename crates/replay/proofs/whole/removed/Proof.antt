@@ -2,16 +2,39 @@
 -- Assumes nothing.
 use borrow.Author.Needs.{needs}
 use native.Mathlib.Omega.{arith}
-use mathlib.Core.Path.{sym, _∙_}
+use mathlib.Core.Path.{_≡_, refl}
+use mathlib.Core.Bool.{Bool, true, false}
+use lib.ListN.{getD, length-take}
 use borrow.Author.Tests.{not-true, not-false}
+use Rattle.text.specs.Derivation.{Position}
 use Rattle.text.specs.memory.RuleLines.{positionAt}
-use Rattle.replay.specs.memory.Held.{wholeIn}
-use Rattle.replay.specs.memory.Steps.{heldIn}
-use Rattle.replay.proofs.Targets.{told-at, told-refused}
-use Rattle.replay.proofs.Splits.{removed-refused, removed-other, removed-true, true-some, word-here}
-use Rattle.replay.proofs.Moves.{moved-as}
+use Rattle.text.proofs.NumberPlaces.{numbersAt-none}
+use Rattle.formula.specs.memory.Kinds.{kindOf}
+use Rattle.replay.specs.memory.Held.{Held, wholeIn, isValue, removedIn}
+use Rattle.replay.specs.memory.Steps.{heldIn, ToldTarget}
+use Rattle.replay.specs.declared.target.Target.the-variants as target
+use Rattle.replay.proofs.Decisions.{word-here}
 use Rattle.replay.proofs.whole.removed.Statement.{statement}
 use Rattle.replay.proofs.whole.removed.Tie as tie
+
+-- what memory holds, and where the line points
+module _ (start : tie.Start) where
+  abbrev memory : Held
+  memory = heldIn (start .args .layout) (start .args .live) (start .args .work .now)
+
+  abbrev position : Position
+  position = positionAt (start .args .text .now) (start .args .name) (start .args .path) (start .args .steps)
+
+-- the target is found, and whether it is `true` is told
+module _ (c : tie.After-is-truth) where
+  abbrev begun : tie.Start
+  begun = c .before .before .before .before .before .before .before .before .before .before
+
+  aimed : let place = c .before .before .before .before .index .given .0 in ToldTarget (wholeIn (memory begun) (position begun)) (begun .args .live) (target.At (place .0) (place .1 .0))
+  aimed = rw (c .before .before .before .before .index .given .1) at (c .before .before .before .before .before .before .whole-target .ensures)
+
+  value : (b : Bool) → c .is-truth .result ≡ b → isValue true (kindOf (getD (memory begun .words) (c .before .before .before .before .index .given .0 .1 .0) 0)) ≡ b
+  value b e = rw (← c .before .word-at .ensures, ← c .is-truth .ensures) e
 
 whole-target-requires : tie.Need-whole-target-requires
 whole-target-requires c κs =
@@ -24,51 +47,31 @@ word-at-requires c κs =
     omega (arith, start .pre .0, start .pre .1)
 
 returns : tie.Need-returns
-returns c =
-    let index-told = c .before .before .before .before .before .index in
-    let whole-target = c .before .before .before .before .before .before .before .whole-target in
-    let start = c .before .before .before .before .before .before .before .before .before .before .before in
-    let a = start .args in
-    let m = heldIn (a .layout) (a .live) (a .work .now) in
-    let p = positionAt (a .text .now) (a .name) (a .path) (a .steps) in
-    let t = told-at (wholeIn m p) (a .live) _ (whole-target .ensures) _ _ (index-told .given .1) in
-    removed-other m p _ (t .0) (rw (← c .before .before .word-at .ensures, ← c .before .is-truth .ensures) (not-true _ (c .if1 .taken)))
+unfolding removedIn
+returns c = rw (aimed (c .before) .0, value (c .before) false (not-true _ (c .if1 .taken)))
 
 opened-requires : tie.Need-opened-requires
 opened-requires c κs =
-    let index-told = c .before .before .before .before .before .before .index in
-    let whole-target = c .before .before .before .before .before .before .before .before .whole-target in
-    let start = c .before .before .before .before .before .before .before .before .before .before .before .before in
-    let a = start .args in
-    let m = heldIn (a .layout) (a .live) (a .work .now) in
-    let p = positionAt (a .text .now) (a .name) (a .path) (a .steps) in
-    let t = told-at (wholeIn m p) (a .live) _ (whole-target .ensures) _ _ (index-told .given .1) in
-    let whether = sym (c .before .before .is-truth .ensures) ∙ not-false _ (c .before .if1 .left) in
-    let here = word-here (a .work .now) (a .live .full) (index-told .given .0 .1 .0) (λ e. true-some _ whether (c .before .before .before .word-at .ensures ∙ e)) in
-    (start .pre .0, start .pre .1, t .1 .0, here, omega (arith, start .pre .1), start .pre .3, omega arith)
+    let tested = c .before .before in
+    let start = begun tested in
+    let pre = start .pre in
+    let here = word-here (isValue true) refl (memory start .words) _ (value tested true (not-false _ (c .before .if1 .left))) in
+    let l = length-take (start .args .live .full) (start .args .work .now) in
+    (pre .0, pre .1, aimed tested .1 .0, omega (arith, here, l), omega (arith, pre .1), pre .3, omega arith)
 
 returns-2 : tie.Need-returns-2
+unfolding removedIn
 returns-2 c =
-    let opened = c .before .before .opened in
-    let if1 = c .before .before .before .before .if1 in
-    let is-truth = c .before .before .before .before .before .is-truth in
-    let word-at = c .before .before .before .before .before .before .word-at in
-    let index-told = c .before .before .before .before .before .before .before .before .before .index in
-    let whole-target = c .before .before .before .before .before .before .before .before .before .before .before .whole-target in
-    let start = c .before .before .before .before .before .before .before .before .before .before .before .before .before .before .before in
-    let a = start .args in
-    let m = heldIn (a .layout) (a .live) (a .work .now) in
-    let p = positionAt (a .text .now) (a .name) (a .path) (a .steps) in
-    let t = told-at (wholeIn m p) (a .live) _ (whole-target .ensures) _ _ (index-told .given .1) in
-    moved-as _ _ (a .layout) (a .work .now) (opened .result) (opened .last .1 .0)
-    (sym (removed-true m p _ (t .0) (a .text .now) (rw (← word-at .ensures, ← is-truth .ensures) (not-false _ (if1 .left))))) (opened .ensures)
+    let tested = c .before .before .before .before .before in
+    let none = numbersAt-none (begun tested .args .text .now) 0 0 refl in
+    rw (aimed tested .0, value tested true (not-false _ (c .before .before .before .before .if1 .left)), ← none) (c .before .before .opened .ensures)
 
 returns-3 : tie.Need-returns-3
+unfolding removedIn
 returns-3 c =
-    let a = c .before .before .before .before .before .before .before .args in
-    let m = heldIn (a .layout) (a .live) (a .work .now) in
-    let p = positionAt (a .text .now) (a .name) (a .path) (a .steps) in
-    removed-refused m p _ (told-refused (wholeIn m p) (a .live) _ (c .before .before .before .whole-target .ensures) _ (c .before .number .given .1))
+    let whole-target = c .before .before .before .whole-target in
+    let t = rw (c .before .number .given .1) at (whole-target .ensures) in
+    rw t
 
 pub removed-spec : {M : Type 1} → statement M
 removed-spec =

@@ -2,89 +2,115 @@
 -- Assumes nothing.
 use borrow.Author.Needs.{needs}
 use native.Mathlib.Omega.{arith}
-use mathlib.Core.Path.{sym, _∙_}
+use Prim.Native.Nat.{ℕ, _+_, _≤_, _<_}
+use mathlib.Core.Path.{_≡_, refl}
+use mathlib.Core.List.{List}
+use mathlib.Core.Bool.{Bool, true, false}
+use lib.ListN.{length, getD, length-take}
+use borrow.Author.Tests.{not-true, not-false, le-leb, lt-leb}
+use Rattle.text.specs.Derivation.{Position}
 use Rattle.text.specs.memory.Numbers.{numbersAt}
 use Rattle.text.specs.memory.RuleLines.{positionAt}
-use borrow.Author.Tests.{not-true, not-false}
-use Rattle.replay.specs.memory.Held.{wholeIn}
-use Rattle.replay.specs.memory.Steps.{heldIn}
 use Rattle.text.proofs.NumberPlaces.{length-numbersAt}
+use Rattle.formula.specs.memory.Kinds.{kindOf}
+use Rattle.replay.specs.memory.Names.{ToldClimb}
+use Rattle.replay.specs.memory.Held.{Held, wholeIn, isSplit, splitIn}
+use Rattle.replay.specs.memory.Steps.{heldIn, ToldTarget}
+use Rattle.replay.specs.declared.names.Climb.the-variants.{To}
+use Rattle.replay.specs.declared.target.Target.the-variants as target
 use Rattle.replay.proofs.NameLists.{region-length}
-use Rattle.replay.proofs.Targets.{told-at, told-refused}
-use Rattle.replay.proofs.Splits.{told-climb, told-stuck, split-stuck, split-refused, split-other, split-over, split-done, split-some, word-here}
-use Rattle.replay.proofs.Moves.{moved-as}
+use Rattle.replay.proofs.Decisions.{word-here}
 use Rattle.replay.proofs.whole.split.Statement.{statement}
 use Rattle.replay.proofs.whole.split.Tie as tie
+
+-- what memory holds, where the line points, and the names that it gives
+module _ (start : tie.Start) where
+  abbrev memory : Held
+  memory = heldIn (start .args .layout) (start .args .live) (start .args .work .now)
+
+  abbrev position : Position
+  position = positionAt (start .args .text .now) (start .args .name) (start .args .path) (start .args .steps)
+
+  abbrev names : List ℕ
+  names = numbersAt (start .args .text .now) (start .args .names) (start .args .many)
+
+  names-counted : length names ≡ start .args .many
+  names-counted = length-numbersAt (start .args .text .now) (start .args .names) (start .args .many)
+
+  live-counted : length (memory .names) ≡ start .args .live .count
+  live-counted = region-length (start .args .work .now) (start .args .layout .names) (start .args .live .count) (omega (arith, start .pre .0, start .pre .1))
+
+-- the names climb
+climbed : (c : tie.After-known-told) → let start = c .before .before .before .before .before .before in ToldClimb (start .args .live .top) (names start) (To (c .before .top .given .0 .0))
+climbed c = rw (c .before .top .given .1) at (c .before .before .before .climbs .ensures)
+
+-- the target is found, and whether it splits is told
+module _ (c : tie.After-is-split) where
+  abbrev begun : tie.Start
+  begun = c .before .before .before .before .before .before .before .before .before .before .before .before .before .before
+
+  climbed-here : ToldClimb (begun .args .live .top) (names begun) (To (c .before .before .before .before .before .before .before .before .before .top .given .0 .0))
+  climbed-here = climbed (c .before .before .before .before .before .before .before .before)
+
+  aimed : let place = c .before .before .before .before .index .given .0 in ToldTarget (wholeIn (memory begun) (position begun)) (begun .args .live) (target.At (place .0) (place .1 .0))
+  aimed = rw (c .before .before .before .before .index .given .1) at (c .before .before .before .before .before .before .whole-target .ensures)
+
+  parts : (b : Bool) → c .is-split .result ≡ b → isSplit (kindOf (getD (memory begun .words) (c .before .before .before .before .index .given .0 .1 .0) 0)) (length (names begun)) ≡ b
+  parts b e = rw (names-counted begun, ← c .before .word-at .ensures, ← c .is-split .ensures) e
 
 climbs-requires : tie.Need-climbs-requires
 climbs-requires c κs = omega (arith, c .before .before .pre)
 
 whole-target-requires : tie.Need-whole-target-requires
-whole-target-requires c κs = omega (arith, c .before .before .before .before .before .before .before .pre .0, c .before .before .before .before .before .before .before .pre .1, c .before .before .before .before .before .before .before .pre)
+whole-target-requires c κs =
+    let start = c .before .before .before .before .before .before .before in
+    omega (arith, start .pre .0, start .pre .1, start .pre)
 
 word-at-requires : tie.Need-word-at-requires
-word-at-requires c κs = omega (arith, c .before .before .before .before .before .before .before .before .before .before .before .before .pre .0, c .before .before .before .before .before .before .before .before .before .before .before .before .pre .1)
+word-at-requires c κs =
+    let start = c .before .before .before .before .before .before .before .before .before .before .before .before in
+    omega (arith, start .pre .0, start .pre .1)
 
 returns : tie.Need-returns
-returns c =
-    let a = c .before .before .before .before .before .before .before .before .before .before .before .before .before .before .before .args in
-    let m = heldIn (a .layout) (a .live) (a .work .now) in
-    let p = positionAt (a .text .now) (a .name) (a .path) (a .steps) in
-    let names = numbersAt (a .text .now) (a .names) (a .many) in
-    let k = told-climb _ _ _ (c .before .before .before .before .before .before .before .before .before .before .before .before .climbs .ensures) _ (c .before .before .before .before .before .before .before .before .before .before .top .given .1) in
-    let t = told-at (wholeIn m p) (a .live) _ (c .before .before .before .before .before .before .before .whole-target .ensures) _ _ (c .before .before .before .before .before .index .given .1) in
-    let n = length-numbersAt (a .text .now) (a .names) (a .many) in
-    split-other m p names (k .0) _ (t .0) (rw (n, ← c .before .before .word-at .ensures, ← c .before .is-split .ensures) (not-true _ (c .if1 .taken)))
+unfolding splitIn
+returns c = rw (climbed-here (c .before) .0, aimed (c .before) .0, parts (c .before) false (not-true _ (c .if1 .taken)))
 
 returns-2 : tie.Need-returns-2
+unfolding splitIn
 returns-2 c =
-    let a = c .before .before .before .before .before .before .before .before .before .before .before .before .before .before .before .before .before .args in
-    let m = heldIn (a .layout) (a .live) (a .work .now) in
-    let p = positionAt (a .text .now) (a .name) (a .path) (a .steps) in
-    let names = numbersAt (a .text .now) (a .names) (a .many) in
-    let k = told-climb _ _ _ (c .before .before .before .before .before .before .before .before .before .before .before .before .before .before .climbs .ensures) _ (c .before .before .before .before .before .before .before .before .before .before .before .before .top .given .1) in
-    let t = told-at (wholeIn m p) (a .live) _ (c .before .before .before .before .before .before .before .before .before .whole-target .ensures) _ _ (c .before .before .before .before .before .before .before .index .given .1) in
-    let n = length-numbersAt (a .text .now) (a .names) (a .many) in
-    let l = region-length (a .work .now) (a .layout .names) (a .live .count) (omega (arith, c .before .before .before .before .before .before .before .before .before .before .before .before .before .before .before .before .before .pre .0, c .before .before .before .before .before .before .before .before .before .before .before .before .before .before .before .before .before .pre .1)) in
-    split-over m p names (k .0) _ (t .0) (rw (n, ← c .before .before .before .before .word-at .ensures, ← c .before .before .before .is-split .ensures) (not-false _ (c .before .before .if1 .left))) (omega (arith, l, n, c .if2 .taken))
+    let tested = c .before .before .before in
+    let many : 1025 < length (memory (begun tested) .names) + length (names (begun tested)) = omega (arith, live-counted (begun tested), names-counted (begun tested), c .if2 .taken) in
+    rw (climbed-here tested .0, aimed tested .0, parts tested true (not-false _ (c .before .before .if1 .left)), lt-leb _ 1025 many)
 
 opened-requires : tie.Need-opened-requires
 opened-requires c κs =
-    let a = c .before .before .before .before .before .before .before .before .before .before .before .before .before .before .before .before .before .before .args in
-    let m = heldIn (a .layout) (a .live) (a .work .now) in
-    let p = positionAt (a .text .now) (a .name) (a .path) (a .steps) in
-    let names = numbersAt (a .text .now) (a .names) (a .many) in
-    let k = told-climb _ _ _ (c .before .before .before .before .before .before .before .before .before .before .before .before .before .before .before .climbs .ensures) _ (c .before .before .before .before .before .before .before .before .before .before .before .before .before .top .given .1) in
-    let t = told-at (wholeIn m p) (a .live) _ (c .before .before .before .before .before .before .before .before .before .before .whole-target .ensures) _ _ (c .before .before .before .before .before .before .before .before .index .given .1) in
-    let n = length-numbersAt (a .text .now) (a .names) (a .many) in
-    let h = word-here (a .work .now) (a .live .full) (c .before .before .before .before .before .before .before .before .index .given .0 .1 .0) (λ e. split-some _ _ (sym (c .before .before .before .before .is-split .ensures) ∙ not-false _ (c .before .before .before .if1 .left)) (c .before .before .before .before .before .word-at .ensures ∙ e)) in
-    (c .before .before .before .before .before .before .before .before .before .before .before .before .before .before .before .before .before .before .pre .0, c .before .before .before .before .before .before .before .before .before .before .before .before .before .before .before .before .before .before .pre .1, t .1 .0, h, omega (arith, c .before .if2 .left), c .before .before .before .before .before .before .before .before .before .before .before .before .before .before .before .before .before .before .pre .3, omega (arith, c .before .before .before .before .before .before .before .before .before .before .before .before .before .before .before .before .before .before .pre .5))
+    let tested = c .before .before .before .before in
+    let start = begun tested in
+    let pre = start .pre in
+    let here = word-here (λ k. isSplit k (length (names start))) refl (memory start .words) _ (parts tested true (not-false _ (c .before .before .before .if1 .left))) in
+    let l = length-take (start .args .live .full) (start .args .work .now) in
+    (pre .0, pre .1, aimed tested .1 .0, omega (arith, here, l), omega (arith, c .before .if2 .left), pre .3, omega (arith, pre .5))
 
 returns-3 : tie.Need-returns-3
+unfolding splitIn
 returns-3 c =
-    let a = c .before .before .before .before .before .before .before .before .before .before .before .before .before .before .before .before .before .before .before .before .before .args in
-    let m = heldIn (a .layout) (a .live) (a .work .now) in
-    let p = positionAt (a .text .now) (a .name) (a .path) (a .steps) in
-    let names = numbersAt (a .text .now) (a .names) (a .many) in
-    let k = told-climb _ _ _ (c .before .before .before .before .before .before .before .before .before .before .before .before .before .before .before .before .before .before .climbs .ensures) _ (c .before .before .before .before .before .before .before .before .before .before .before .before .before .before .before .before .top .given .1) in
-    let t = told-at (wholeIn m p) (a .live) _ (c .before .before .before .before .before .before .before .before .before .before .before .before .before .whole-target .ensures) _ _ (c .before .before .before .before .before .before .before .before .before .before .before .index .given .1) in
-    let n = length-numbersAt (a .text .now) (a .names) (a .many) in
-    let l = region-length (a .work .now) (a .layout .names) (a .live .count) (omega (arith, c .before .before .before .before .before .before .before .before .before .before .before .before .before .before .before .before .before .before .before .before .before .pre .0, c .before .before .before .before .before .before .before .before .before .before .before .before .before .before .before .before .before .before .before .before .before .pre .1)) in
-    moved-as _ _ (a .layout) (a .work .now) (c .before .before .opened .result) (c .before .before .opened .last .1 .0) (sym (split-done m p names (k .0) _ (t .0) (rw (n, ← c .before .before .before .before .before .before .before .before .word-at .ensures, ← c .before .before .before .before .before .before .before .is-split .ensures) (not-false _ (c .before .before .before .before .before .before .if1 .left))) (omega (arith, l, n, c .before .before .before .before .if2 .left)) ∙ rw (k .1))) (c .before .before .opened .ensures)
+    let tested = c .before .before .before .before .before .before .before in
+    let few : length (memory (begun tested) .names) + length (names (begun tested)) ≤ 1025 = omega (arith, live-counted (begun tested), names-counted (begun tested), c .before .before .before .before .if2 .left) in
+    rw (climbed-here tested .0, aimed tested .0, parts tested true (not-false _ (c .before .before .before .before .before .before .if1 .left)), le-leb _ 1025 few, climbed-here tested .1) (c .before .before .opened .ensures)
 
 returns-4 : tie.Need-returns-4
+unfolding splitIn
 returns-4 c =
-    let a = c .before .before .before .before .before .before .before .before .before .before .before .args in
-    let m = heldIn (a .layout) (a .live) (a .work .now) in
-    let p = positionAt (a .text .now) (a .name) (a .path) (a .steps) in
-    let names = numbersAt (a .text .now) (a .names) (a .many) in
-    let k = told-climb _ _ _ (c .before .before .before .before .before .before .before .before .climbs .ensures) _ (c .before .before .before .before .before .before .top .given .1) in
-    split-refused m p names (k .0) _ (told-refused (wholeIn m p) (a .live) _ (c .before .before .before .whole-target .ensures) _ (c .before .number .given .1))
+    let whole-target = c .before .before .before .whole-target in
+    let before = c .before .before .before .before .before in
+    let t = rw (c .before .number .given .1) at (whole-target .ensures) in
+    rw (climbed (before) .0, t)
 
 returns-5 : tie.Need-returns-5
+unfolding splitIn
 returns-5 c =
-    let a = c .before .before .before .before .before .args in
-    split-stuck (heldIn (a .layout) (a .live) (a .work .now)) (positionAt (a .text .now) (a .name) (a .path) (a .steps)) (numbersAt (a .text .now) (a .names) (a .many)) (told-stuck _ _ _ (c .before .before .climbs .ensures) (c .enum-told .given .1))
+    let t = rw (c .enum-told .given .1) at (c .before .before .climbs .ensures) in
+    rw t
 
 pub split-spec : {M : Type 1} → statement M
 split-spec =

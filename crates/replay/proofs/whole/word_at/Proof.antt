@@ -9,7 +9,9 @@ use Rattle.replay.proofs.whole.word_at.Statement.{statement}
 use Rattle.replay.proofs.whole.word_at.Tie as tie
 
 returns : tie.Need-returns
-returns c = sym (getD-take (c .before .before .args .full) (c .before .before .args .work .now) (c .before .before .args .at) 0 (c .before .if1 .taken))
+returns c =
+    let start = c .before .before in
+    sym (getD-take (start .args .full) (start .args .work .now) (start .args .at) 0 (c .before .if1 .taken))
 
 returns-2 : tie.Need-returns-2
 returns-2 c =
