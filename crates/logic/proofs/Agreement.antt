@@ -8,8 +8,7 @@ use lib.Dec.{eqb}
 use Rattle.text.specs.Bytes.{same}
 use Rattle.text.specs.Problem.{Name, Row, Problem, isInput}
 use Rattle.text.proofs.Laws.{and-left, and-right}
-use Rattle.logic.specs.Formula.{Term, element, variable, Terms, noTerms, term}
-use Rattle.logic.specs.Formula.{Formula, truth, atom, equal, connective, quantifier, Formulas, noParts, part}
+use Rattle.logic.specs.Formula.{Term, element, variable, Terms, noTerms, term, Formula, truth, atom, equal, connective, quantifier, Formulas, noParts, part}
 use Rattle.logic.specs.Names.{besides, termClosed, termsClosed, closed, allClosed}
 use Rattle.logic.specs.Normal.{mentionsOnly, allMentionOnly, inputsOnly}
 use Rattle.logic.specs.Meaning.{Structure, Environment, bind, valueOf, valuesOf, connect, holds, truths}

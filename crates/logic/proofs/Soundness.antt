@@ -10,8 +10,7 @@ use Rattle.text.specs.Problem.{Name, Problem, given}
 use Rattle.text.specs.Derivation.{Rule}
 use Rattle.text.proofs.Laws.{and-left, and-right}
 use Rattle.text.proofs.Outcome.{Allowed, allowed-weaken}
-use Rattle.logic.specs.Formula.{Term, element, variable, Terms, noTerms, term, Side, all, any, junction, replace}
-use Rattle.logic.specs.Formula.{Formula, connective, Formulas, noParts, part}
+use Rattle.logic.specs.Formula.{Term, element, variable, Terms, noTerms, term, Side, all, any, junction, replace, Formula, connective, Formulas, noParts, part}
 use Rattle.logic.specs.Names.{none, besides, closedBut}
 use Rattle.logic.specs.Normal.{inputsOnly, isElementTerm, elementsOnly}
 use Rattle.logic.specs.Meaning.{Structure, inputStructure, Extends, Environment, nowhere, bind, valueOf, valuesOf}

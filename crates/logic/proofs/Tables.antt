@@ -10,8 +10,7 @@ use Rattle.text.specs.Problem.{Problem, isInput}
 use Rattle.text.specs.Derivation.{Rule, SNAND, SNOR, STN, EPRED, EPROP, IQ}
 use Rattle.text.proofs.Laws.{and-left, and-right}
 use Rattle.text.proofs.Outcome.{Allowed, allowed-mapped, allowed-weaken, allowed-cond}
-use Rattle.logic.specs.Formula.{noTerms, term, Side, all, any, negation, junction}
-use Rattle.logic.specs.Formula.{Formula, truth, atom, equal, connective, quantifier, Formulas, noParts, part}
+use Rattle.logic.specs.Formula.{noTerms, term, Side, all, any, negation, junction, Formula, truth, atom, equal, connective, quantifier, Formulas, noParts, part}
 use Rattle.logic.specs.Names.{closedBut}
 use Rattle.logic.specs.Normal.{isElementTerm, elementsOnly}
 use Rattle.logic.specs.Meaning.{unit}

@@ -25,11 +25,10 @@ use Rattle.logic.proofs.WellFormed.{wellFormed-parts}
 use Rattle.logic.proofs.Kept.{makesAt-kept}
 use Rattle.logic.proofs.Soundness.{makesAt-same}
 use Rattle.logic.proofs.Normal.{clause-noInput}
-use Rattle.replay.specs.TheoryText.{theoryOf}
+use Rattle.replay.specs.TheoryText.{theoryOf, theoryText}
 use Rattle.replay.specs.Theory.{formulasOf, namesOf, State, live, ended, liveTheory, initial}
 use Rattle.replay.specs.Replay.{Replayed, derivationOf}
 use Rattle.replay.specs.Ground.{areClauses, isGround, Ground, groundText, groundOf, footerLine}
-use Rattle.replay.specs.TheoryText.{theoryText}
 use Rattle.replay.specs.Answer.{differenceLine, grounded, replayed, checked, replayResult, checkResult}
 use Rattle.replay.specs.Accepted.{Grounds, finalFormulas, finalText}
 use Rattle.replay.specs.memory.Conclusions.{agreed, concludedOf, answeredOf}

@@ -14,7 +14,7 @@ use Rattle.text.specs.Problem.{Problem}
 use Rattle.text.specs.Derivation.{RuleLine}
 use Rattle.text.proofs.Laws.{and-left, and-right, Each, each-weaken, each-append}
 use Rattle.text.proofs.Problem.{Valid, isOutput-small}
-use Rattle.logic.specs.Formula.{Formula, truth, all, Formulas, noParts, part, partsOf, size, sizes}
+use Rattle.logic.specs.Formula.{Formula, truth, all, Formulas, noParts, part, size}
 use Rattle.logic.specs.Text.{spelled, textOf}
 use Rattle.logic.specs.Names.{none}
 use Rattle.logic.specs.Normal.{isGNF, hasForm, isClause}
@@ -24,11 +24,10 @@ use Rattle.logic.proofs.Kept.{makesAt-kept}
 use Rattle.logic.proofs.Normal.{isClause-clause}
 use Rattle.logic.proofs.GroundSize.{length-ground}
 use Rattle.logic.proofs.Clauses.{clause-variables, clause-guards, clause-form, clause-spelled}
-use Rattle.replay.specs.TheoryText.{theoryOf}
+use Rattle.replay.specs.TheoryText.{theoryOf, theoryText}
 use Rattle.replay.specs.Theory.{formulasOf, numbered, State, live, ended, liveTheory, initial}
 use Rattle.replay.specs.Steps.{Step, rewriting, removing, splitting, ending, Steps, stop, go}
 use Rattle.replay.specs.Ground.{areClauses, isGround}
-use Rattle.replay.specs.TheoryText.{theoryText}
 use Rattle.replay.proofs.Theory.{EachPart}
 use Rattle.replay.proofs.Soundness.{Live, steps-every}
 use Rattle.replay.proofs.TheoryText.{Passed, Fitting, read-theory}
@@ -53,11 +52,6 @@ steps-sized P s u ls (go t v w l ms a b) e = steps-sized P v w ms b (step-sized 
 pub sizeTotal-append : (fs gs : List Formula) → sizeTotal (fs ++ gs) ≡ sizeTotal fs + sizeTotal gs
 sizeTotal-append [] gs = omega arith
 sizeTotal-append (f ∷ fs) gs = rw (sizeTotal-append fs gs) (omega arith)
-
-pub sizes-total : (fs : List Formula) → sizes (partsOf fs) ≡ sizeTotal fs
-unfolding size
-sizes-total [] = refl
-sizes-total (f ∷ fs) = rw (sizes-total fs)
 
 sizesFit-front : (fs gs : List Formula) → sizesFit (fs ++ gs) ≡ true → sizesFit fs ≡ true
 sizesFit-front fs gs e =

@@ -18,10 +18,10 @@ use Rattle.formula.specs.memory.Words.{words}
 use Rattle.formula.proofs.memory.Kinds.{skip-none}
 use Rattle.formula.proofs.memory.Naming.{Naming, allWordsIn}
 use Rattle.formula.proofs.memory.Words.{length-words, allWords-sizes, skip-words}
+use Rattle.formula.proofs.memory.TheoryLines.{sizes-total}
 use Rattle.replay.specs.Theory.{Theory, formulasOf, namesOf, State, live, ended, liveTheory, greatestUsed, within}
 use Rattle.replay.specs.memory.Held.{Held, held}
 use Rattle.replay.proofs.Theory.{length-names, length-formulas}
-use Rattle.replay.proofs.Ground.{sizes-total}
 
 -- UNSAT was
 abbrev pub isOver : State → Bool

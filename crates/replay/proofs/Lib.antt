@@ -1,4 +1,3 @@
-pub mod Outcomes
 pub mod Steps
 pub mod Theory
 pub mod Soundness

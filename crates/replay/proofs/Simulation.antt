@@ -9,8 +9,7 @@ use Rattle.text.specs.Outcome.{Outcome, done, refused, mapped, _>>=_}
 use Rattle.text.specs.Reading.{Reader}
 use Rattle.text.specs.Lines.{onLine, readLines}
 use Rattle.text.specs.Derivation.{RuleLine, Line, step, footer, readLine, readVersion, readGrounder}
-use Rattle.text.proofs.Outcome.{Allowed, allowed-mapped, allowed-bind, allowed-any, mapped-mapped}
-use Rattle.replay.proofs.Outcomes.{alike-bind}
+use Rattle.text.proofs.Outcome.{Allowed, allowed-mapped, allowed-bind, allowed-any, mapped-mapped, alike-bind}
 use Rattle.text.proofs.Lines.{readText-keeps}
 use Rattle.replay.specs.Replay.{Place, top, heading, among, bottom, Replayed, wholeDerivation, lineDone, derivationLine, derivationFrom}
 

@@ -29,11 +29,11 @@ use Rattle.formula.specs.memory.Entries.{Memory}
 use Rattle.formula.specs.memory.TheoryLines.{readLine, LineFound}
 use Rattle.formula.proofs.memory.Words.{allWords-sizes}
 use Rattle.formula.proofs.memory.Variables.{fits-variables}
-use Rattle.formula.proofs.memory.TheoryLines.{line-then, TheoryEntered, theory-none, theory-more}
+use Rattle.formula.proofs.memory.TheoryLines.{line-then, TheoryEntered, theory-none, theory-more, sizes-total}
 use Rattle.replay.specs.TheoryText.{theoryLine, theoryOf}
 use Rattle.text.specs.memory.Going.{Going}
 use Rattle.replay.specs.memory.TheoryReads.{totalsFit, TheoryFound}
-use Rattle.replay.proofs.Ground.{sizeTotal-append, sizes-total}
+use Rattle.replay.proofs.Ground.{sizeTotal-append}
 use Rattle.text.proofs.Going.{going-first, going-on, going-refused, going-end}
 
 -- The totals.

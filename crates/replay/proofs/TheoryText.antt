@@ -21,8 +21,7 @@ use Rattle.logic.specs.Names.{namesFit}
 use Rattle.logic.specs.Normal.{isGNF}
 use Rattle.logic.specs.Limits.{limitsFit, sizesFit}
 use Rattle.logic.proofs.Reading.{FitsIn, reads-formula, read-formula}
-use Rattle.replay.specs.TheoryText.{theoryLine, theoryOf}
-use Rattle.replay.specs.TheoryText.{theoryText}
+use Rattle.replay.specs.TheoryText.{theoryLine, theoryOf, theoryText}
 
 -- the tests of a line but for the limits: 5 and 6, 7, 8
 pub record Passed (P : Problem) (f : Formula) : Type 0 where

@@ -12,10 +12,9 @@ use Rattle.text.specs.Derivation.{Derivation, derivationFits, derivationText}
 use Rattle.logic.specs.Formula.{Formula}
 use Rattle.logic.specs.Meaning.{Structure, Extends, satisfies}
 use Rattle.replay.specs.Theory.{State, formulasOf, namesOf, liveTheory, initial}
-use Rattle.replay.specs.TheoryText.{theoryOf}
+use Rattle.replay.specs.TheoryText.{theoryOf, theoryText}
 use Rattle.replay.specs.Steps.{Steps}
 use Rattle.replay.specs.Ground.{isGround}
-use Rattle.replay.specs.TheoryText.{theoryText}
 use Rattle.replay.specs.Answer.{Result, workAfter}
 
 -- the derivation's text is heading, rule lines and footer; each line is allowed, from the theory to a last one; the footer lists its names;

@@ -30,8 +30,7 @@ use Rattle.text.specs.declared.table.Table.{Table}
 use Rattle.text.proofs.Bytes.{range-below, range-above, range-within}
 use Rattle.text.proofs.Laws.{and-left, and-right}
 use Rattle.text.proofs.Found.{found-give, found-then, found-taken, taken-found, refused-first, refused-then, found-require, refused-require}
-use Rattle.text.proofs.Found.{found-word, refused-word, found-later, refused-later, oneOf-this, oneOf-only}
-use Rattle.text.proofs.Found.{made-mapped, found-made, refused-made}
+use Rattle.text.proofs.Found.{found-word, refused-word, found-later, refused-later, oneOf-this, oneOf-only, made-mapped, found-made, refused-made}
 use Rattle.text.proofs.TableGrowth.{problem-empty, inputs-domain, problem-named, problem-output}
 use Rattle.text.proofs.Tables.{predicates-in, position-most, named-indexed, length-indexed}
 

@@ -16,8 +16,7 @@ use Rattle.text.specs.declared.table.Table.{Table}
 use Rattle.text.proofs.Laws.{Each, and-left, and-right, same-true}
 use Rattle.text.proofs.Problem.{Small, Valid}
 use Rattle.text.proofs.Tables.{map-indexed, predicates-in}
-use Rattle.logic.specs.Formula.{Term, element, variable, Terms, noTerms, term, termCount}
-use Rattle.logic.specs.Formula.{Formula, truth, atom, equal, connective, quantifier, Formulas, noParts, part}
+use Rattle.logic.specs.Formula.{Term, element, variable, Terms, noTerms, term, termCount, Formula, truth, atom, equal, connective, quantifier, Formulas, noParts, part}
 use Rattle.logic.specs.Names.{termKnown, termsKnown, known, allKnown}
 use Rattle.logic.specs.Limits.{termVariables, termsVariables, variables, allVariables}
 use Rattle.formula.proofs.memory.NameTable.{position-within, member-position}

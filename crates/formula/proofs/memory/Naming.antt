@@ -4,8 +4,7 @@ use Prim.Native.Nat.{ℕ, _<_}
 use mathlib.Core.Path.{_≡_}
 use mathlib.Core.List.{List}
 use Rattle.text.specs.Problem.{Name}
-use Rattle.logic.specs.Formula.{Term, element, variable, Terms, noTerms, term, termCount}
-use Rattle.logic.specs.Formula.{Formula, truth, atom, equal, connective, quantifier, Formulas, noParts, part}
+use Rattle.logic.specs.Formula.{Term, element, variable, Terms, noTerms, term, termCount, Formula, truth, atom, equal, connective, quantifier, Formulas, noParts, part}
 use Rattle.formula.specs.memory.Words.{termWords, words, allWords}
 use Rattle.formula.specs.memory.Stored.{formulaAt}
 

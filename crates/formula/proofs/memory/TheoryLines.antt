@@ -127,10 +127,10 @@ unfolding variables
 theoryVariables-parts [] = refl
 theoryVariables-parts (f ∷ fs) = ap (λ xs. variables f ++ xs) (theoryVariables-parts fs)
 
-sizeTotal-parts : (fs : List Formula) → sizeTotal fs ≡ sizes (partsOf fs)
+pub sizes-total : (fs : List Formula) → sizes (partsOf fs) ≡ sizeTotal fs
 unfolding size
-sizeTotal-parts [] = refl
-sizeTotal-parts (f ∷ fs) = ap (λ n. size f + n) (sizeTotal-parts fs)
+sizes-total [] = refl
+sizes-total (f ∷ fs) = rw (sizes-total fs)
 
 -- the formulas read so far are in memory, with their variables in the table
 module _ (text : Bytes) (px : Name → ℕ) (old : Memory) (to : ℕ) where
@@ -146,7 +146,7 @@ module _ (text : Bytes) (px : Name → ℕ) (old : Memory) (to : ℕ) where
   theory-more fs mid before f new e =
       entered-alike text (allVariables-last fs f ∙ sym (theoryVariables-parts (fs ++ (f ∷ [])))) (λ h. h) (λ ix. allWords-last ix px fs f)
       (entered-then text (entered-alike text (theoryVariables-parts fs) (λ h. h) (λ ix. refl) before) (allWords-goes px (partsOf fs))
-      (λ ix. allWords-sizes ix px (partsOf fs) ∙ sym (sizeTotal-parts fs)) e)
+      (λ ix. allWords-sizes ix px (partsOf fs) ∙ sizes-total fs) e)
 
 -- in a table that fits every variable has its place
 pub fits-length : (names : List Name) → listFits names ≡ true → length names ≤ 64

@@ -9,8 +9,7 @@ use lib.Seq.{sets}
 use Rattle.text.specs.Sizes.{tupleCount}
 use Rattle.text.specs.Bytes.{Bytes, bytes, every}
 use Rattle.text.specs.Reading.{Reader, give, _>>=_, _>>_, judge, word, readNumber, separated}
-use Rattle.text.specs.Problem.{Row, Problem, isElement, rowFits, rowsFit, ascending, tupleTotal}
-use Rattle.text.specs.Problem.{Relation, truthValue, tuples, readTuples, readRelation, rowsFor}
+use Rattle.text.specs.Problem.{Row, Problem, isElement, rowFits, rowsFit, ascending, tupleTotal, Relation, truthValue, tuples, readTuples, readRelation, rowsFor}
 use Rattle.text.specs.memory.Found.{Found, Taken, Refused}
 use Rattle.text.specs.memory.Table.{packed, ranked}
 use Rattle.text.specs.declared.rows.RowKept.{RowKept}

@@ -3,13 +3,12 @@
 -- Assumes nothing.
 use borrow.Author.Needs.{needs}
 use native.Mathlib.Omega.{arith}
-use Prim.Native.Nat.{_+_, _-_, _*_, _≤_}
+use Prim.Native.Nat.{_+_, _-_, _*_, _≤_, ℕ, _<_}
 use mathlib.Core.Path.{_≡_, refl, sym, ap, _∙_}
 use borrow.Author.Tests.{not-true, not-false}
 use lib.ListN.{length, drop}
 use Rattle.formula.specs.memory.Clauses.{allAt, clauseAt}
 use Rattle.formula.proofs.memory.Clauses.{all-none, all-more, all-stop, negation-other, negation-one, junction-all, junction-none, junction-some, connective-never, clause-no-level, clause-beyond, clause-kind}
-use Prim.Native.Nat.{ℕ, _<_}
 use borrow.Fn.Kinds.{In}
 use borrow.Fn.PlainCycle.{Measures, is, falls, and}
 use Rattle.formula.proofs.clause.are_clauses_at.Reads as are-clauses-at

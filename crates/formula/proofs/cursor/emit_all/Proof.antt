@@ -4,8 +4,7 @@ use borrow.Author.Needs.{needs}
 use native.Mathlib.Omega.{arith}
 use Prim.Native.Nat.{_-_, _≤_}
 use mathlib.Core.Path.{_≡_, refl, _∙_}
-use lib.ListN.{length, drop}
-use lib.ListN.{drop-of-length-le}
+use lib.ListN.{length, drop, drop-of-length-le}
 use Rattle.formula.proofs.memory.Cursor.{from-byte, Remains, remains-all, remains-then, remains-nothing}
 use Rattle.formula.proofs.cursor.emit_all.Statement.{statement}
 use Rattle.formula.proofs.cursor.emit_all.Tie as tie

@@ -3,7 +3,7 @@
 -- Assumes nothing.
 use borrow.Author.Needs.{needs}
 use native.Mathlib.Omega.{arith}
-use Prim.Native.Nat.{ℕ, _+_, _*_, _≤_}
+use Prim.Native.Nat.{ℕ, _+_, _*_, _≤_, ℕ, _<_}
 use mathlib.Core.Path.{_≡_, refl, sym, ap, ap₂, _∙_}
 use mathlib.Core.List.{List, [], _∷_}
 use mathlib.Core.Bool.{Bool, false}
@@ -16,7 +16,6 @@ use Rattle.formula.specs.declared.word.Sign.{Sign}
 use Rattle.formula.proofs.memory.Values.{value-no-level, value-beyond, value-truth, value-term, value-atom, value-equal, value-connective, value-quantifier}
 use Rattle.formula.proofs.memory.Values.{isPair, connect-pair, connect-settled, part-value, part-none, partsFrom, parts-end, parts-settled, parts-open}
 use Rattle.formula.proofs.memory.Values.{element-outside, element-inside, each-end, each-settled, each-open}
-use Prim.Native.Nat.{ℕ, _<_}
 use borrow.Fn.Kinds.{In}
 use borrow.Fn.PlainCycle.{Measures, is, falls, and}
 use Rattle.formula.proofs.guard.connective_holds.Reads as connective-holds

@@ -3,7 +3,7 @@
 -- Assumes nothing.
 use borrow.Author.Needs.{needs}
 use native.Mathlib.Omega.{arith}
-use Prim.Native.Nat.{ℕ, _+_, _-_, _≤_}
+use Prim.Native.Nat.{ℕ, _+_, _-_, _≤_, ℕ, _<_}
 use mathlib.Core.Path.{_≡_, refl, sym, ap, _∙_}
 use mathlib.Core.List.{List}
 use mathlib.Core.Bool.{Bool}
@@ -12,7 +12,6 @@ use borrow.Author.Tests.{not-true, not-false}
 use Rattle.formula.specs.memory.Flags.{allClosedAt}
 use Rattle.formula.proofs.memory.Flags.{closed-no-level, closed-beyond, closed-truth, closed-term, closed-atom, closed-equal, closed-connective, closed-quantifier}
 use Rattle.formula.proofs.memory.Flags.{allClosed-none, allClosed-more, allClosed-stop}
-use Prim.Native.Nat.{ℕ, _<_}
 use borrow.Fn.Kinds.{In}
 use borrow.Fn.PlainCycle.{Measures, is, falls, and}
 use Rattle.formula.proofs.scope.closed_at.Reads as closed-at

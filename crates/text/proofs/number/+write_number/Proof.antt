@@ -2,10 +2,9 @@
 -- Assumes nothing.
 use borrow.Author.Needs.{needs}
 use native.Mathlib.Omega.{arith}
-use Prim.Native.Nat.{_/_}
+use Prim.Native.Nat.{_/_, ℕ, _<_}
 use mathlib.Core.Path.{_∙_}
 use Rattle.text.proofs.NumberPlaces.{length-decimal, length-one, length-more, write-one, write-more}
-use Prim.Native.Nat.{ℕ, _<_}
 use borrow.Fn.Kinds.{In}
 use borrow.Fn.PlainCycle.{Measures, is, falls, and}
 use Rattle.text.proofs.number.write_number.Reads as write-number
