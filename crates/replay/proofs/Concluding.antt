@@ -23,7 +23,7 @@ use Rattle.replay.specs.Ground.{Ground, groundText}
 use Rattle.replay.specs.Answer.{differenceLine, grounded, replayed, checked, answerOf, workAfter, resultOf, replayResult, checkResult}
 use Rattle.replay.specs.Promise.{Promise}
 use Rattle.replay.specs.memory.Grounds.{GroundTold}
-use Rattle.replay.specs.memory.Conclusions.{agreed, concludedOf, judgedOf, shortOf, answeredOf, shown, Told, Concluded}
+use Rattle.replay.specs.memory.Conclusions.{agreed, concludedOf, judgedOf, shortOf, answeredOf, Told, Concluded}
 use Rattle.replay.specs.declared.grounding.Grounded.{Grounded}
 use Rattle.replay.specs.declared.job.Answer.{Answer}
 use Rattle.replay.proofs.Demands.{ground-short}
@@ -34,7 +34,7 @@ pub told-same : {J K : Judged Ground} {output new : List ℕ} {r : Answer} → J
 told-same {J} {K} {output} {new} {r} e t = subst (λ (j : Judged Ground). Told j output r new) (sym e) t
 
 -- a refusal leaves the output
-pub told-refusal : {J : Judged Ground} {output new : List ℕ} {r : Answer} (x : Refusal) → J ≡ refused x → r ≡ shown (answerOf (refused x)) → new ≡ output
+pub told-refusal : {J : Judged Ground} {output new : List ℕ} {r : Answer} (x : Refusal) → J ≡ refused x → r ≡ answerOf (refused x) → new ≡ output
     → Told J output r new
 told-refusal x e a w = told-same e (record { is = a; written = w })
 
@@ -79,7 +79,7 @@ module _ {compare : Bool} {claim text : Bytes} {rules formulas : ℕ} {output ne
     conclude-other o e = record {
       told = λ G t u v short.
           told-refusal _ (concluded-other compare claim output G (omega (arith, long so G t short, room)) (sym (a ∙ told-agreed so G t short compare) ∙ o))
-          (e ∙ ap (λ (n : ℕ). shown (answerOf (refused (refusal 19 4 n)))) (counted-line short (print-as t so))) (kept so G t short);
+          (e ∙ ap (λ (n : ℕ). answerOf (refused (refusal 19 4 n))) (counted-line short (print-as t so))) (kept so G t short);
     }
 
     -- and of another with storing
@@ -159,15 +159,7 @@ module _ (problem theory derivation claim : Bytes) (e : shorts problem theory de
 
 -- what is told of an answer, with what is left
 promised : (J : Judged Ground) (output work new left : List ℕ) (r : Answer) → Told J output r new → left ≡ workAfter work → Promise (resultOf J output work) r new left
-promised J output work new left r t e = record {
-  number = ap (λ (a : Answer). a .number) (t .is);
-  file = ap (λ (a : Answer). a .file) (t .is);
-  line = ap (λ (a : Answer). a .line) (t .is);
-  rules = ap (λ (a : Answer). a .rules) (t .is);
-  formulas = ap (λ (a : Answer). a .formulas) (t .is);
-  written = t .written;
-  left = e;
-}
+promised J output work new left r t e = record { is = t .is; written = t .written; left = e }
 
 module _ (compare : Bool) (problem theory derivation claim : Bytes) (output work : List ℕ) (r : Answer) where
   pub answer-little : length work < 16384 → r ≡ record { number = 1; file = 0; line = 0; rules = 0; formulas = 0 }

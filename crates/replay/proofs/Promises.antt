@@ -1,8 +1,8 @@
 -- What the jobs' promises come to: a promise allows one outcome alone, what stood in working memory before never shows, what a refusal gives, and
--- demands 2 and 3. An answer is its five numbers, so it is the definition's; the demands are those on the definition.
+-- demands 2 and 3. The answer is the definition's; the demands are those on the definition.
 -- Assumes nothing.
 use Prim.Native.Nat.{ℕ, _≤_}
-use mathlib.Core.Path.{_≡_, sym, ap, subst, _∙_}
+use mathlib.Core.Path.{_≡_, refl, sym, ap, subst, _∙_}
 use mathlib.Core.Logic.{_↔_, _⊎_, inl, inr}
 use mathlib.Core.List.{List, [], _++_}
 use mathlib.Core.Bool.{Bool, true, false}
@@ -24,7 +24,7 @@ use Rattle.replay.specs.Answer.{Result, answerOf, outputAfter, resultOf,
 use Rattle.replay.specs.Accepted.{Grounds, finalText, accepts, Fits, Equivalent}
 use Rattle.replay.specs.Refused.{Listed, Refused}
 use Rattle.replay.specs.Promise.{Promise}
-use Rattle.replay.specs.memory.Conclusions.{answeredOf, shown}
+use Rattle.replay.specs.memory.Conclusions.{answeredOf}
 use Rattle.replay.specs.declared.job.Answer.{Answer}
 use Rattle.replay.proofs.Refusals.{replayed-refuses, checked-refuses}
 use Rattle.replay.proofs.Accepted.{check-answered}
@@ -32,27 +32,17 @@ use Rattle.replay.proofs.Demands.{demand-two, demand-two-result, demand
 
 -- One outcome.
 
-abbrev made : ℕ → ℕ → ℕ → ℕ → ℕ → Answer
-made number file line rules formulas = record { number = number; file = file; line = line; rules = rules; formulas = formulas }
-
-made-same : {a b c d e k l m n o : ℕ} → a ≡ k → b ≡ l → c ≡ m → d ≡ n → e ≡ o → made a b c d e ≡ made k l m n o
-made-same p q r s t = rw (p, q, r, s, t)
-
--- the answer is the definition's
-promised-answer : {result : Result} {r : Answer} {output work : List ℕ} → Promise result r output work → r ≡ shown (result .answer)
-promised-answer p = made-same (p .number) (p .file) (p .line) (p .rules) (p .formulas)
-
 -- Any two outcomes that a promise allows are equal.
 pub promise-once : {result : Result} {r s : Answer} {output written work left : List ℕ} → Promise result r output work → Promise result s written left
     → (r ≡ s) × (output ≡ written) × (work ≡ left)
-promise-once p q = (promised-answer p ∙ sym (promised-answer q), p .written ∙ sym (q .written), p .left ∙ sym (q .left))
+promise-once p q = (p .is ∙ sym (q .is), p .written ∙ sym (q .written), p .left ∙ sym (q .left))
 
 -- Working memory before.
 
 unseen : (J K : Judged Ground) (output work other : List ℕ) → J ≡ K → {r s : Answer} {new written left rest : List ℕ}
     → Promise (resultOf J output work) r new left → Promise (resultOf K output other) s written rest → (r ≡ s) × (new ≡ written)
 unseen J K output work other e p q = (
-  promised-answer p ∙ ap (λ (j : Judged Ground). shown (answerOf j)) e ∙ sym (promised-answer q),
+  p .is ∙ ap answerOf e ∙ sym (q .is),
   p .written ∙ ap (λ (j : Judged Ground). outputAfter j output) e ∙ sym (q .written),
 )
 
@@ -80,12 +70,16 @@ module _ (problem theory derivation : Bytes) (output work other : List ℕ) (ali
   replay-unseen =
       unseen _ _ output work other (answered-unseen false problem theory derivation [] output work other (both-enough work other alike))
 
+-- the answer's number
+promised-number : {result : Result} {r : Answer} {output work : List ℕ} → Promise result r output work → r .number ≡ result .answer .number
+promised-number p = ap (λ (a : Answer). a .number) (p .is)
+
 -- A refusal.
 
 refused-promise : {last : ℕ} {J : Judged Ground} → Refuses (Listed last) J → (output work : List ℕ) {r : Answer} {new left : List ℕ} → Promise (resultOf J output work) r new left
     → (r .number ≡ 0 → ⊥) → Refused last output r new
-refused-promise (never G) output work p some = absurd (some (p .number))
-refused-promise (only l) output work p some = record { listed = rw (p .number, p .file, p .line) l; rules = p .rules; formulas = p .formulas; kept = p .written }
+refused-promise (never G) output work p some = absurd (some (promised-number p))
+refused-promise (only l) output work p some = rw (p .is) (record { listed = l; rules = refl; formulas = refl; kept = p .written })
 
 -- The job check.
 module _ (problem theory derivation claim : Bytes) (output work : List ℕ) {r : Answer} {new left : List ℕ}
@@ -96,7 +90,7 @@ module _ (problem theory derivation claim : Bytes) (output work : List ℕ) {r :
 
   -- Demand 3.
   pub check-three : r .number ≡ 0 → Equivalent problem theory claim
-  check-three e = demand-three problem theory derivation claim output work (sym (promise .number) ∙ e)
+  check-three e = demand-three problem theory derivation claim output work (sym (promised-number promise) ∙ e)
 
   -- After UNSAT the claim is `false` alone.
   pub check-three-unsat : r .number ≡ 0 → claim ≡ bytes "false\n" → (P : Problem) (T : List Formula) → problemOf problem ≡ done P → theoryOf P theory ≡ done T
@@ -106,7 +100,7 @@ module _ (problem theory derivation claim : Bytes) (output work : List ℕ) {r :
   -- What is accepted is written: the claim.
   pub check-written : r .number ≡ 0 → new ≡ claim ++ drop (length claim) output
   check-written e =
-      let (G, is, a) = check-answered problem theory derivation output work claim (sym (promise .number) ∙ e) in
+      let (G, is, a) = check-answered problem theory derivation output work claim (sym (promised-number promise) ∙ e) in
       promise .written ∙ ap (λ (k : Judged Ground). outputAfter k output) is ∙ ap (λ (t : Bytes). t ++ drop (length t) output) (sym (same-true claim (groundText G) (a .agrees)))
 
   -- Demand 2.
@@ -115,7 +109,7 @@ module _ (problem theory derivation claim : Bytes) (output work : List ℕ) {r :
     pub check-two : (r .number ≡ 0) ↔ ((g : Grounds P T derivation) × (claim ≡ finalText g) × (length (finalText g) ≤ length output))
     check-two =
         let d = demand-two problem theory derivation claim output work P T readProblem readTheory fits in
-        ((λ e. d .0 (sym (promise .number) ∙ e)), λ w. promise .number ∙ d .1 w)
+        ((λ e. d .0 (sym (promised-number promise) ∙ e)), λ w. promised-number promise ∙ d .1 w)
 
     pub check-two-result : (g : Grounds P T derivation) → claim ≡ finalText g → length (finalText g) ≤ length output → Promise (accepts g output work) r new left
     check-two-result g e long =
@@ -129,7 +123,7 @@ module _ (problem theory derivation : Bytes) (output work : List ℕ) {r : Answe
 
   pub replayed-three : r .number ≡ 0 → (G : Ground) × Equivalent problem theory (groundText G) × (new ≡ groundText G ++ drop (length (groundText G)) output)
   replayed-three e =
-      let (G, same, written) = replay-three problem theory derivation output work (sym (promise .number) ∙ e) in
+      let (G, same, written) = replay-three problem theory derivation output work (sym (promised-number promise) ∙ e) in
       (G, same, promise .written ∙ written)
 
   module _ (P : Problem) (T : List Formula) (readProblem : problemOf problem ≡ done P) (readTheory : theoryOf P theory ≡ done T)
@@ -137,7 +131,7 @@ module _ (problem theory derivation : Bytes) (output work : List ℕ) {r : Answe
     pub replayed-two : (r .number ≡ 0) ↔ ((g : Grounds P T derivation) × (length (finalText g) ≤ length output))
     replayed-two =
         let d = replay-two problem theory derivation output work P T readProblem readTheory fits in
-        ((λ e. d .0 (sym (promise .number) ∙ e)), λ w. promise .number ∙ d .1 w)
+        ((λ e. d .0 (sym (promised-number promise) ∙ e)), λ w. promised-number promise ∙ d .1 w)
 
     pub replayed-two-result : (g : Grounds P T derivation) → length (finalText g) ≤ length output → Promise (accepts g output work) r new left
     replayed-two-result g long =

@@ -12,6 +12,7 @@ use Rattle.text.specs.Problem.{problemOf}
 use Rattle.replay.specs.TheoryText.{theoryOf}
 use Rattle.replay.specs.Ground.{Ground, groundText, groundOf}
 use Rattle.replay.specs.Replay.{derivationOf}
+use Rattle.replay.specs.declared.job.Answer.{Answer}
 
 -- 1, 2 and 18 name no file and no line
 abbrev pub enough : List ℕ → Judged (Unit {0})
@@ -62,13 +63,6 @@ checked problem theory derivation claim output work = do
   done G
 
 -- what the desk sees: 0 with the counts of rule lines and final formulas, or a refusal with both counts zero
-pub record Answer : Type 0 where
-  pub number : ℕ
-  pub file : ℕ
-  pub line : ℕ
-  pub rules : ℕ
-  pub formulas : ℕ
-
 abbrev pub answerOf : Judged Ground → Answer
 answerOf (done G) = record { number = 0; file = 0; line = 0; rules = G .rules; formulas = length (G .formulas) }
 answerOf (refused r) = record { number = r .number; file = r .file; line = r .line; rules = 0; formulas = 0 }

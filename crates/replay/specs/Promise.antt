@@ -6,10 +6,6 @@ use Rattle.replay.specs.Answer.{Result}
 use Rattle.replay.specs.declared.job.Answer.{Answer}
 
 pub record Promise (result : Result) (r : Answer) (output work : List ℕ) : Type 0 where
-  pub number : r .number ≡ result .answer .number
-  pub file : r .file ≡ result .answer .file
-  pub line : r .line ≡ result .answer .line
-  pub rules : r .rules ≡ result .answer .rules
-  pub formulas : r .formulas ≡ result .answer .formulas
+  pub is : r ≡ result .answer
   pub written : output ≡ result .output
   pub left : work ≡ result .work

@@ -10,7 +10,6 @@ use Rattle.text.specs.Outcome.{done, provided, _>>=_, _>>_}
 use Rattle.text.specs.Lines.{Judged, refusal}
 use Rattle.replay.specs.Ground.{Ground, groundText}
 use Rattle.replay.specs.Answer.{enough, short, room, differenceLine, grounded, answerOf, outputAfter}
-use Rattle.replay.specs.Answer as told
 use Rattle.replay.specs.declared.job.Answer.{Answer}
 
 -- a ground text against the claim, if there is one to compare with
@@ -36,13 +35,9 @@ shortOf compare problem theory derivation claim output =
 abbrev pub answeredOf : Bool → Bytes → Bytes → Bytes → Bytes → List ℕ → List ℕ → Judged Ground
 answeredOf compare problem theory derivation claim output work = enough work >> shortOf compare problem theory derivation claim output
 
--- an answer as the code has it
-abbrev pub shown : told.Answer → Answer
-shown a = record { number = a .number; file = a .file; line = a .line; rules = a .rules; formulas = a .formulas }
-
 -- the answer, and the output after
 pub record Told (judged : Judged Ground) (output : List ℕ) (r : Answer) (new : List ℕ) : Type 0 where
-  pub is : r ≡ shown (answerOf judged)
+  pub is : r ≡ answerOf judged
   pub written : new ≡ outputAfter judged output
 
 -- from a ground theory of which the text and the counts are known
