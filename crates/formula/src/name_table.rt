@@ -9,7 +9,7 @@ ghost use lib.Dec.{leb};
 ghost use Rattle.text.specs.Sizes.{nameSize};
 ghost use Rattle.text.specs.Bytes.{same};
 ghost use Rattle.text.specs.memory.Table.{position};
-ghost use Rattle.formula.specs.memory.NameTable.{nameIn, namesIn, withName, Listed, listFits};
+ghost use Rattle.formula.specs.memory.NameTable.{nameIn, namesIn, withName, NameListed, listFits};
 
 // How many names the table has.
 fn name_count(names: &[u32; 131]) -> u32
@@ -65,7 +65,7 @@ fn with_name(names: [u32; 131], i: u32, at: usize, size: usize) -> [u32; 131]
 // The index of a name, which is put into the table if it is new and there is room.
 pub fn list_name(text: &[u8], names: &mut [u32; 131], at: usize, size: usize) -> u32
     requires { ⌜ (at ≤ 65536) × (size ≤ 65536) ⌝ }
-    ensures { λ r. ⌜ Listed (now (text .entry)) (take size (drop at (now (text .entry)))) (now (names .entry)) (now (names .exit)) r ⌝ }
+    ensures { λ r. ⌜ NameListed (now (text .entry)) (take size (drop at (now (text .entry)))) (now (names .entry)) (now (names .exit)) r ⌝ }
 {
     let i = find_name(text, names, at, size);
     if i < name_count(names) {

@@ -25,7 +25,7 @@ ghost use Rattle.logic.specs.Reading.{readVariable, readTerm};
 ghost use Rattle.formula.specs.memory.Bindings.{boundIn};
 ghost use Rattle.formula.specs.memory.Entries.{memory};
 ghost use Rattle.formula.specs.memory.Lists.{upTo};
-ghost use Rattle.formula.specs.memory.TermReads.{ToldWord, readElement, readVariableTerm, ToldTerm, closedUpTo, readTermList, ToldTerms};
+ghost use Rattle.formula.specs.memory.TermReads.{ToldName, readElement, readVariableTerm, ToldTerm, closedUpTo, readTermList, ToldTerms};
 
 // The place behind a word, if it is well spelled.
 pub enum Behind {
@@ -61,7 +61,7 @@ fn is_truth(name: &[u8]) -> bool
 // The variable at a place.
 pub fn variable_end(text: &[u8], at: usize) -> Behind
     requires { ⌜ at ≤ length (now text) ⌝ }
-    ensures { λ r. ⌜ ToldWord readVariable (now (text .entry)) at r ⌝ }
+    ensures { λ r. ⌜ ToldName readVariable (now (text .entry)) at r ⌝ }
 {
     if !is_small(peek(text, at)) {
         return Behind::Malformed;
@@ -76,7 +76,7 @@ pub fn variable_end(text: &[u8], at: usize) -> Behind
 // The predicate's name at a place.
 pub fn predicate_end(text: &[u8], at: usize) -> Behind
     requires { ⌜ at ≤ length (now text) ⌝ }
-    ensures { λ r. ⌜ ToldWord (readName 5) (now (text .entry)) at r ⌝ }
+    ensures { λ r. ⌜ ToldName (readName 5) (now (text .entry)) at r ⌝ }
 {
     if !is_capital(peek(text, at)) {
         return Behind::Malformed;

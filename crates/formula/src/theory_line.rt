@@ -10,10 +10,10 @@ ghost use Prim.Native.Nat.{ℕ, _+_, _≤_};
 ghost use lib.ListN.{length};
 ghost use Rattle.text.specs.memory.Table.{problemIn};
 ghost use Rattle.formula.specs.memory.Entries.{predicateIndex, memory};
-ghost use Rattle.formula.specs.memory.TheoryLines.{ToldLine};
+ghost use Rattle.formula.specs.memory.TheoryLines.{ToldTheoryLine};
 
 // The place behind a line, its formula's size and the most quantifiers on a path inside a guard of it; or the number that it is refused with.
-pub enum LineRead {
+pub enum TheoryLineRead {
     Done {
         next: usize,
         size: usize,
@@ -23,7 +23,7 @@ pub enum LineRead {
 }
 
 // The line at a place: a formula of at most 32 levels.
-pub fn read_line(
+pub fn read_theory_line(
     text: &[u8],
     at: usize,
     problem: &[u8],
@@ -31,28 +31,28 @@ pub fn read_line(
     names: &mut [u32; 131],
     work: &mut [u32],
     to: usize,
-) -> LineRead
+) -> TheoryLineRead
     requires { ⌜ (at ≤ length (now text)) × (length (now text) ≤ 65536) × (to ≤ at + 1000000) × (table .domain ≤ 64) × (table .count ≤ 32) ⌝ }
-    ensures { λ r. ⌜ ((rows : List ℕ) → ToldLine (problemIn (now (problem .entry)) table rows) (now (text .entry)) (predicateIndex (now (problem .entry)) table) at (memory (now (names .entry)) (now (work .entry))) to r (memory (now (names .exit)) (now (work .exit)))) ⌝ }
+    ensures { λ r. ⌜ ((rows : List ℕ) → ToldTheoryLine (problemIn (now (problem .entry)) table rows) (now (text .entry)) (predicateIndex (now (problem .entry)) table) at (memory (now (names .entry)) (now (work .entry))) to r (memory (now (names .exit)) (now (work .exit)))) ⌝ }
 {
     match read_formula(text, at, 32, no_scope(), problem, table, names, work, to) {
         Read::Done { next, size, facts } => {
             if peek(text, next) != b'\n' {
-                return LineRead::Refused(5);
+                return TheoryLineRead::Refused(5);
             }
             if !facts.named {
-                return LineRead::Refused(7);
+                return TheoryLineRead::Refused(7);
             }
             if !facts.normal {
-                return LineRead::Refused(8);
+                return TheoryLineRead::Refused(8);
             }
-            LineRead::Done {
+            TheoryLineRead::Done {
                 next: next + 1,
                 size,
                 guarded: facts.guarded,
             }
         }
-        Read::Malformed => LineRead::Refused(5),
-        Read::Deep => LineRead::Refused(6),
+        Read::Malformed => TheoryLineRead::Refused(5),
+        Read::Deep => TheoryLineRead::Refused(6),
     }
 }

@@ -10,7 +10,7 @@ use borrow.Author.Tests.{leb-true, lt-leb, ne-eqb}
 use Rattle.text.specs.Bytes.{Bytes, bytes, next, isDigit, isCapital, isSmall, isSmallOrDigit, isLetterOrDigit, joined, every}
 use Rattle.text.specs.Numbers.{decimal}
 use Rattle.text.specs.Outcome.{done}
-use Rattle.text.specs.Reading.{Reader, give, word, _⇒_, oneOf}
+use Rattle.text.specs.Reading.{Reading, give, word, _⇒_, oneOf}
 use Rattle.text.specs.Problem.{Name, isName, readName}
 use Rattle.text.proofs.Laws.{and-left, and-right, or-left, or-right, Each, each-weaken}
 use Rattle.text.proofs.Numbers.{decimal-first}
@@ -105,7 +105,7 @@ module _ (l : ℕ) where
       reads-give (ap₂ _&&_ right (fit .0), omega arith) (e ∙ rw (textsOf-partsOf fs))
 
 -- one level more, where r reads the parts
-module _ (l : ℕ) (r : Reader Formula) (reads : Reads [] (FitsIn l) textOf r) where
+module _ (l : ℕ) (r : Reading Formula) (reads : Reads [] (FitsIn l) textOf r) where
   reads-negation : Reads (connectiveSign negation) (FitsIn (suc l)) textOf (readNegation r)
   unfolding readNegation
   reads-negation = reads-then reads _ λ f fits. reads-connective l negation (f ∷ []) refl (fits, tt) (simp append-nil)
@@ -291,7 +291,7 @@ text-first (quantifier all x g f) u well = refl
 text-first (quantifier any x g f) u well = refl
 
 -- one level more, where r reads the parts back
-module _ (l : ℕ) (r : Reader Formula) (back : (f : Formula) → FitsIn l f → ReadsBack continues textOf r f) where
+module _ (l : ℕ) (r : Reading Formula) (back : (f : Formula) → FitsIn l f → ReadsBack continues textOf r f) where
   read-negation : (fs : List Formula) → isOne (partsOf fs) ≡ true → Each (FitsIn l) fs → (u : Bytes) → continues (next u) ≡ false
       → readNegation r (joined 44 (map textOf fs) ++ u) ≡ done (connective negation (partsOf fs), u)
   unfolding readNegation

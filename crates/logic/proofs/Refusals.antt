@@ -3,7 +3,7 @@
 -- Assumes nothing.
 use Prim.Native.Nat.{ℕ, suc, zero}
 use mathlib.Core.List.{List, [], _∷_}
-use Rattle.text.specs.Reading.{Reader}
+use Rattle.text.specs.Reading.{Reading}
 use Rattle.text.specs.Problem.{Problem, readName}
 use Rattle.text.specs.Derivation.{Rule, SNAND, SNOR, STN, EPRED, EPROP, IQ}
 use Rattle.text.proofs.Refusals.{Refuses, never, only, refuses-mapped, outcomes, OnlyRefuses, EachRefuses, only-refuse, only-oneOf, readers}
@@ -28,7 +28,7 @@ module _ {N : ℕ → Type 0} (malformed : N 5) where
   unfolding readAtom readArguments readName
   readAtom-refuses = search (readers, readTerm-refuses) depth 8
 
-  module _ {r : Reader Formula} (inner : OnlyRefuses N r) where
+  module _ {r : Reading Formula} (inner : OnlyRefuses N r) where
     readTwo-refuses : (o : Connective) → OnlyRefuses N (readTwo r o)
     unfolding readTwo
     readTwo-refuses o = search readers

@@ -35,7 +35,7 @@ use Rattle.replay.specs.memory.Held.{Held, held, steppedIn, endIn}
 use Rattle.replay.specs.memory.Steps.{liveNames, rowsIn, heldIn, Arranged, Few}
 use Rattle.replay.specs.memory.Lines.{JudgedIn}
 use Rattle.replay.specs.memory.TheoryReads.{TheoryFound}
-use Rattle.replay.specs.memory.Grounds.{GroundFound, GroundTold, GroundEither, found, stopped, judgedEnd, endedIn, EndEither, ends, stops, Refuses as Refused, Named}
+use Rattle.replay.specs.memory.Grounds.{GroundFound, GroundTold, GroundEither, found, stopped, judgedEnd, endedIn, EndEither, ends, stops, Refuses as Refused, FirstNamed}
 use Rattle.replay.specs.declared.live.Live.{Live}
 use Rattle.replay.specs.declared.live.Layout.{Layout}
 use Rattle.replay.specs.declared.grounding.Grounded.{Grounded}
@@ -57,7 +57,7 @@ module _ (layout : Layout) (count full : ℕ) (old : List ℕ) (arranged : Arran
   abbrev live : Live
   live = record { count = count; full = full; top = count; ended = false }
 
-  pub first-named : Named layout count full old live (putMid (layout .names) (length old - layout .names) old list)
+  pub first-named : FirstNamed layout count full old live (putMid (layout .names) (length old - layout .names) old list)
   first-named =
       let room : layout .names ≤ length old = omega (arith, arranged) in
       let put = put-end old list (layout .names) room in
@@ -220,7 +220,7 @@ module _ (layout : Layout) (old new : List ℕ) (arranged : Arranged layout (len
   mid-rows = slice-behind old new (layout .rows) (omega (arith, arranged)) same (layout .rows) (layout .names) (omega arith) (arranged .names)
 
   -- the derivation is replayed on the theory's words
-  pub ended-first : (table : Table) (count full : ℕ) → full ≤ 4096 → (live : Live) (work : List ℕ) → Named layout count full mid live work → (derivation : Bytes)
+  pub ended-first : (table : Table) (count full : ℕ) → full ≤ 4096 → (live : Live) (work : List ℕ) → FirstNamed layout count full mid live work → (derivation : Bytes)
       → endedIn table (rowsIn layout work) (heldIn layout live work) derivation ≡ endedIn table (rowsIn layout old) (held (take full new) (countFrom 1 count) count false) derivation
   ended-first table count full small live work n derivation =
       let w : take full mid ≡ take full new = within-front old new (layout .rows) (omega (arith, arranged)) same full (omega (arith, arranged)) in

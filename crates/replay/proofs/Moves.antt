@@ -14,7 +14,7 @@ use Rattle.formula.specs.memory.Storing.{spliced}
 use Rattle.formula.specs.memory.Rewriting.{endWithin, rewrittenWords}
 use Rattle.formula.specs.declared.decide.Fit.{Fit}
 use Rattle.replay.specs.memory.Held.{held, exchanged, sizedIn, openedIn}
-use Rattle.replay.specs.memory.Steps.{liveNames, heldIn, Arranged, Few, Moved, Roomy, Fronted}
+use Rattle.replay.specs.memory.Steps.{liveNames, heldIn, Arranged, Few, Stepped, Roomy, Fronted}
 use Rattle.replay.specs.declared.live.Live.{Live}
 use Rattle.replay.specs.declared.live.Layout.{Layout}
 use Rattle.replay.proofs.Regions.{behind-front, within-front, slice-behind, within-end, end-part, slice-before, spliced-front, made-front, part-end, put-end}
@@ -49,7 +49,7 @@ module _ (layout : Layout) (live : Live) (old : List ℕ) (arranged : Arranged l
       rewritten-over h = sized-over (heldIn layout live old) at decided flags (let e = f .sized ∙ ap length made in omega arith)
 
       pub rewritten-moved : length new ≡ length front → total ≤ 4096
-          → Moved (sizedIn (heldIn layout live old) at decided flags) layout old (withFull live total false) (new ++ drop (layout .rows) old)
+          → Stepped (sizedIn (heldIn layout live old) at decided flags) layout old (withFull live total false) (new ++ drop (layout .rows) old)
       rewritten-moved same h =
           let room : layout .rows ≤ length old = omega (arith, arranged) in
           let e = f .sized ∙ ap length made in
@@ -64,7 +64,7 @@ module _ (layout : Layout) (live : Live) (old : List ℕ) (arranged : Arranged l
 
 -- UNSAT
 module _ (layout : Layout) (live : Live) (old : List ℕ) (arranged : Arranged layout (length old)) where
-  pub falsified-moved : (word name : ℕ) → word ≡ truthWord false → Moved (done (held (truthWord false ∷ []) (name ∷ []) (live .top) true)) layout old (record { count = 1; full = 1; top = live .top; ended = true }) (set (set old 0 word) (layout .names) name)
+  pub falsified-moved : (word name : ℕ) → word ≡ truthWord false → Stepped (done (held (truthWord false ∷ []) (name ∷ []) (live .top) true)) layout old (record { count = 1; full = 1; top = live .top; ended = true }) (set (set old 0 word) (layout .names) name)
   falsified-moved word name is =
       let one = set old 0 word in
       let long : length one ≡ length old = length-set old 0 word in
@@ -133,7 +133,7 @@ module _ (layout : Layout) (live : Live) (old : List ℕ) (arranged : Arranged l
         ∙ spliced-front (take (length mid - layout .names) (drop (layout .names) mid)) (live .count) (omega (arith, arranged, mid-long, few)) index (index + 1) numbers (omega arith)
         ∙ ap (λ (s : List ℕ). exchanged (take (live .count) s) index (index + 1) numbers) (part-end mid (layout .names) ∙ mid-names)
 
-    pub opened-moved : Moved (openedIn (heldIn layout live old) (index, at) numbers top) layout old (record { count = count; full = full; top = top; ended = false }) work
+    pub opened-moved : Stepped (openedIn (heldIn layout live old) (index, at) numbers top) layout old (record { count = count; full = full; top = top; ended = false }) work
     unfolding openedIn
     opened-moved =
         record {

@@ -6,7 +6,7 @@ use mathlib.Core.List.{[], _∷_}
 use lib.ListN.{length}
 use Rattle.text.specs.Bytes.{Bytes}
 use Rattle.text.specs.Outcome.{Outcome, done, refused, mapped, _>>=_}
-use Rattle.text.specs.Reading.{Reader}
+use Rattle.text.specs.Reading.{Reading}
 use Rattle.text.specs.Lines.{onLine, readLines}
 use Rattle.text.specs.Derivation.{RuleLine, Line, step, footer, readLine, readVersion, readGrounder}
 use Rattle.text.proofs.Outcome.{Allowed, allowed-mapped, allowed-bind, allowed-any, mapped-mapped, alike-bind}
@@ -14,7 +14,7 @@ use Rattle.text.proofs.Lines.{readText-keeps}
 use Rattle.replay.specs.Replay.{Place, top, heading, among, bottom, Replayed, wholeDerivation, lineDone, derivationLine, derivationFrom}
 
 -- A text read line by line, with other states.
-module _ {S U A B : Type 0} (file : ℕ) (line : S → Reader S) (other : U → Reader U) (finish : S → Outcome ℕ A) (ends : U → Outcome ℕ B) (g : S → U) (f : A → B)
+module _ {S U A B : Type 0} (file : ℕ) (line : S → Reading S) (other : U → Reading U) (finish : S → Outcome ℕ A) (ends : U → Outcome ℕ B) (g : S → U) (f : A → B)
     (Q : S → Type 0) (keeps : (state : S) (s : Bytes) → Q state → Allowed (λ p. Q (p .0)) (line state s))
     (alike : (state : S) (s : Bytes) → Q state → other (g state) s ≡ mapped {B = U × Bytes} (λ (p : S × Bytes). (g (p .0), p .1)) (line state s))
     (finished : (state : S) → ends (g state) ≡ mapped f (finish state)) where

@@ -26,7 +26,7 @@ use Rattle.logic.specs.Limits.{differentCount, namesShort, guardQuantifiers, th
 use Rattle.formula.specs.memory.Words.{allWords}
 use Rattle.formula.specs.memory.NameTable.{extendedBy, indexIn, namesIn, listFits}
 use Rattle.formula.specs.memory.Entries.{Memory}
-use Rattle.formula.specs.memory.TheoryLines.{readLine, LineFound}
+use Rattle.formula.specs.memory.TheoryLines.{readTheoryLine, TheoryLineFound}
 use Rattle.formula.proofs.memory.Words.{allWords-sizes}
 use Rattle.formula.proofs.memory.Variables.{fits-variables}
 use Rattle.formula.proofs.memory.TheoryLines.{line-then, TheoryEntered, theory-none, theory-more, sizes-total}
@@ -90,7 +90,7 @@ limits-names fs e =
 -- a line does what its reader tells, and then 9
 theory-line : (P : Problem) (fs : List Formula) (s : Bytes)
     → theoryLine P fs s
-    ≡ (outcome._>>=_ (readLine P s) λ p. reading._>>_ (require 9 (limitsFit (fs ++ (p .0 ∷ [])))) (give (fs ++ (p .0 ∷ []))) (p .1))
+    ≡ (outcome._>>=_ (readTheoryLine P s) λ p. reading._>>_ (require 9 (limitsFit (fs ++ (p .0 ∷ [])))) (give (fs ++ (p .0 ∷ []))) (p .1))
 unfolding theoryLine
 theory-line P fs s = line-then P (λ f. reading._>>_ (require 9 (limitsFit (fs ++ (f ∷ [])))) (give (fs ++ (f ∷ [])))) s
 
@@ -125,12 +125,12 @@ module _ (P : Problem) (text : Bytes) (index : Name → ℕ) (old : Memory) wher
 module _ {P : Problem} {text : Bytes} {index : Name → ℕ} {old : Memory} (empty : namesIn text (old .names) ≡ []) {at count full : ℕ} {mid : Memory}
     (g : TheoryGoing P text index old at count full mid) where
   module _ (more : at < length text) where
-    pub theory-refused : (number : ℕ) → readLine P (drop at text) ≡ refused number → theoryOf P text ≡ refused (refusal number 2 (count + 1))
+    pub theory-refused : (number : ℕ) → readTheoryLine P (drop at text) ≡ refused number → theoryOf P text ≡ refused (refusal number 2 (count + 1))
     theory-refused number e =
         going-refused 2 (theoryLine P) done text (theoryOf P text) at (count + 1) (g .formulas) (g .going) more number
         (theory-line P (g .formulas) (drop at text) ∙ rw e)
 
-    module _ {next extent guarded : ℕ} {new : Memory} (f : LineFound P text index at mid full next extent guarded new) where
+    module _ {next extent guarded : ℕ} {new : Memory} (f : TheoryLineFound P text index at mid full next extent guarded new) where
       abbrev later : List Formula
       later = g .formulas ++ (f .formula ∷ [])
 

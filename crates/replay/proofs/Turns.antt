@@ -8,7 +8,7 @@ use mathlib.Core.List.{List}
 use lib.ListN.{length}
 use Rattle.text.specs.Bytes.{Bytes}
 use Rattle.text.specs.Outcome.{done, refused}
-use Rattle.text.specs.Reading.{Reader}
+use Rattle.text.specs.Reading.{Reading}
 use Rattle.text.specs.Lines.{refusal}
 use Rattle.text.specs.Derivation.{RuleLine, step, footer, readLine, readVersion, readGrounder}
 use Rattle.text.specs.memory.Found.{Taken, Refused}
@@ -20,7 +20,7 @@ use Rattle.text.specs.declared.rule_line.Rule.the-variants.{Snand, Snor, Stn, E
 use Rattle.replay.specs.Replay.{Place, top, heading, among, bottom, wholeDerivation, derivationLine, derivationFrom}
 use Rattle.replay.specs.memory.Held.{Held, ruleName, steppedIn}
 use Rattle.replay.specs.memory.Steps.{rowsIn, heldIn, Few, ToldStep}
-use Rattle.replay.specs.memory.Lines.{JudgedIn, lineIn, GoingIn, ToldLine, Finished, movedBy}
+use Rattle.replay.specs.memory.Lines.{JudgedIn, lineIn, GoingIn, ToldMoved, Finished, movedBy}
 use Rattle.replay.specs.declared.live.Live.{Live}
 use Rattle.replay.specs.declared.live.Layout.{Layout}
 use Rattle.replay.specs.declared.live.Step.{Step}
@@ -40,34 +40,34 @@ name-rule Iq = refl
 module _ (table : Table) (first : Held) (layout : Layout) (old : List ℕ) (m : Held) {text : Bytes} {at line told : ℕ} (same : told ≡ line) where
   -- a rule line is read, and done or refused as what it does to memory is
   pub stepped-line : {l : RuleLine} {next : ℕ} → Taken readLine text at (step l) next → (r : Step) (work : List ℕ) → ToldStep (steppedIn table (rowsIn layout old) m l) layout old r work
-      → ToldLine table (rowsIn layout old) first layout old m text at line (movedBy r next told) work
+      → ToldMoved table (rowsIn layout old) first layout old m text at line (movedBy r next told) work
   unfolding derivationLine
   stepped-line t (step-of.Done live) work s = (record { is = λ rules. rw (t .is, s .is); after = t .after; within = t .within }, (s .few, s .rows))
   stepped-line t (step-of.Refused number) work s = ((λ rules. rw (t .is, s)), same)
 
   pub footer-line : (names many : ℕ) {next : ℕ} → Taken readLine text at (footer (numbersAt text names many)) next → names + many ≤ next
-      → ToldLine table (rowsIn layout old) first layout old m text at line (moved.Footer names many next) old
+      → ToldMoved table (rowsIn layout old) first layout old m text at line (moved.Footer names many next) old
   unfolding derivationLine
   footer-line names many t near = (record { is = λ rules. rw (t .is); after = t .after; within = t .within }, (near, refl))
 
-  pub malformed-line : Refused 10 readLine text at → (work : List ℕ) → ToldLine table (rowsIn layout old) first layout old m text at line (moved.Refused 10 told) work
+  pub malformed-line : Refused 10 readLine text at → (work : List ℕ) → ToldMoved table (rowsIn layout old) first layout old m text at line (moved.Refused 10 told) work
   unfolding derivationLine
   malformed-line t work = ((λ rules. rw (t .is)), same)
 
 -- The derivation from a line on.
 module _ (table : Table) (rows : List ℕ) (first : Held) (layout : Layout) (old : List ℕ) {whole : JudgedIn} {text : Bytes} {at rules : ℕ} {m : Held}
     (going : GoingIn table rows first whole text at (rules + 3) (among m rules)) where
-  abbrev line : Place Held → Reader (Place Held)
+  abbrev line : Place Held → Reading (Place Held)
   line = lineIn table rows first
 
   pub lines-end : length text ≤ at → whole ≡ refused (refusal 10 3 (rules + 3))
   lines-end h = going-end 3 line wholeDerivation text whole at (rules + 3) (among m rules) going h
 
   module _ (more : at < length text) where
-    pub lines-refused : (number told : ℕ) (work : List ℕ) → ToldLine table rows first layout old m text at (rules + 3) (moved.Refused number told) work → whole ≡ refused (refusal number 3 told)
+    pub lines-refused : (number told : ℕ) (work : List ℕ) → ToldMoved table rows first layout old m text at (rules + 3) (moved.Refused number told) work → whole ≡ refused (refusal number 3 told)
     lines-refused number told work t = rw (t .1) (going-refused 3 line wholeDerivation text whole at (rules + 3) (among m rules) going more number (t .0 rules))
 
-    pub lines-on : (live : Live) (next : ℕ) (work : List ℕ) → ToldLine table rows first layout old m text at (rules + 3) (moved.On live next) work
+    pub lines-on : (live : Live) (next : ℕ) (work : List ℕ) → ToldMoved table rows first layout old m text at (rules + 3) (moved.On live next) work
         → GoingIn table rows first whole text next (rules + 1 + 3) (among (heldIn layout live work) (rules + 1))
     lines-on live next work t =
         let e : rules + 3 + 1 ≡ rules + 1 + 3 = omega arith in
@@ -75,7 +75,7 @@ module _ (table : Table) (rows : List ℕ) (first : Held) (layout : Layout) (old
         (going-on 3 line wholeDerivation text whole at (rules + 3) (among m rules) going more next (among (heldIn layout live work) (rules + 1))
         (t .0 .is rules ∙ rw (add-one rules)) (t .0 .after) (t .0 .within))
 
-    module _ (names many next : ℕ) (work : List ℕ) (t : ToldLine table rows first layout old m text at (rules + 3) (moved.Footer names many next) work) where
+    module _ (names many next : ℕ) (work : List ℕ) (t : ToldMoved table rows first layout old m text at (rules + 3) (moved.Footer names many next) work) where
       closed : GoingIn table rows first whole text next (rules + 3 + 1) (bottom m rules (numbersAt text names many))
       closed =
           going-on 3 line wholeDerivation text whole at (rules + 3) (among m rules) going more next (bottom m rules (numbersAt text names many)) (t .0 .is rules) (t .0 .after)

@@ -3,7 +3,7 @@ use Prim.Native.Nat.{ℕ, suc}
 use mathlib.Core.List.{List}
 use Rattle.text.specs.Bytes.{Bytes}
 use Rattle.text.specs.Outcome.{Outcome, done, refused, mapped}
-use Rattle.text.specs.Reading.{Reader, give, refuse, judge, _>>=_, _>>_}
+use Rattle.text.specs.Reading.{Reading, give, refuse, judge, _>>=_, _>>_}
 use Rattle.text.specs.Lines.{Judged, readText}
 use Rattle.text.specs.Problem.{Problem}
 use Rattle.text.specs.Derivation.{RuleLine, Line, step, footer, readLine, readVersion, readGrounder}
@@ -34,7 +34,7 @@ module _ {S : Type 0} (move : S → RuleLine → Outcome ℕ S) where
   lineDone s rules (step l) = mapped (λ u. among u (suc rules)) (move s l)
   lineDone s rules (footer names) = done (bottom s rules names)
 
-  unfoldable pub derivationLine : S → Place S → Reader (Place S)
+  unfoldable pub derivationLine : S → Place S → Reading (Place S)
   derivationLine first top = do
     readVersion
     give heading

@@ -17,7 +17,7 @@ ghost use Rattle.text.specs.Problem.{problemOf};
 ghost use Rattle.text.specs.memory.Table.{problemIn};
 ghost use Rattle.replay.specs.Answer.{grounded};
 ghost use Rattle.replay.specs.memory.Steps.{rowsIn, heldIn, Arranged, Few};
-ghost use Rattle.replay.specs.memory.Grounds.{GroundTold, GroundEither, endedIn, EndEither, Refuses, Named};
+ghost use Rattle.replay.specs.memory.Grounds.{GroundTold, GroundEither, endedIn, EndEither, Refuses, FirstNamed};
 
 // The live formulas and the table, with the count of rule lines; or a number, a file and a line. The number is 0 where there is a ground theory.
 pub struct Grounded {
@@ -79,7 +79,7 @@ fn replay_end(text: &[u8], work: &mut [u32], layout: Layout, live: Live, table: 
 // The live formulas of a theory that was read: named 1, 2, 3 and so on.
 fn named(work: &mut [u32], layout: Layout, count: usize, full: usize) -> Live
     requires { ⌜ Arranged layout (length (now work)) × (count ≤ 1024) × (full ≤ 4096) ⌝ }
-    ensures { λ r. ⌜ Named layout count full (now (work .entry)) r (now (work .exit)) ⌝ }
+    ensures { λ r. ⌜ FirstNamed layout count full (now (work .entry)) r (now (work .exit)) ⌝ }
 {
     let start = layout.names;
     put_first(&mut work[start..], count);

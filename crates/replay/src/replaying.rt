@@ -18,7 +18,7 @@ ghost use lib.ListN.{length};
 ghost use Rattle.replay.specs.Replay.{among, derivationFrom};
 ghost use Rattle.replay.specs.memory.Held.{Held, steppedIn};
 ghost use Rattle.replay.specs.memory.Steps.{rowsIn, heldIn, Arranged, Few};
-ghost use Rattle.replay.specs.memory.Lines.{JudgedIn, GoingIn, ToldLine, ToldReplayed, movedBy};
+ghost use Rattle.replay.specs.memory.Lines.{JudgedIn, GoingIn, ToldMoved, ToldReplayed, movedBy};
 
 // What a derivation comes to: the live formulas, the count of rule lines and the footer's names; or a number and a line.
 pub enum Replayed {
@@ -71,7 +71,7 @@ fn replay_line(
     table: Table,
 ) -> Moved
     requires { ⌜ Arranged layout (length (now work)) × Few live × (table .domain ≤ 64) × (at < length (now text)) × (length (now text) ≤ 65536) ⌝ }
-    ensures { λ r. ⌜ ((first : Held) → ToldLine table (rowsIn layout (now (work .entry))) first layout (now (work .entry)) (heldIn layout live (now (work .entry))) (now (text .entry)) at line r (now (work .exit))) ⌝ }
+    ensures { λ r. ⌜ ((first : Held) → ToldMoved table (rowsIn layout (now (work .entry))) first layout (now (work .entry)) (heldIn layout live (now (work .entry))) (now (text .entry)) at line r (now (work .exit))) ⌝ }
 {
     let numbered = read_line(text, at, line);
     let read = numbered.read;

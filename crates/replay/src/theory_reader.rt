@@ -3,8 +3,8 @@ use crate::size::FORMULA_COUNT;
 use crate::size::GUARD_QUANTIFIER_COUNT;
 use crate::size::THEORY_SIZE;
 use formula::name_table::names_fit;
-use formula::theory_line::LineRead;
-use formula::theory_line::read_line;
+use formula::theory_line::TheoryLineRead;
+use formula::theory_line::read_theory_line;
 use text::table::Table;
 ghost use mathlib.Core.Path.{_≡_};
 ghost use mathlib.Core.List.{List};
@@ -52,8 +52,8 @@ pub fn read_theory(
     let mut count: usize = 0;
     let mut full: usize = 0;
     while at < text.len() {
-        match read_line(text, at, problem, table, names, work, full) {
-            LineRead::Done {
+        match read_theory_line(text, at, problem, table, names, work, full) {
+            TheoryLineRead::Done {
                 next,
                 size,
                 guarded,
@@ -68,7 +68,7 @@ pub fn read_theory(
                 }
                 at = next;
             }
-            LineRead::Refused(number) => {
+            TheoryLineRead::Refused(number) => {
                 return TheoryRead::Refused {
                     number,
                     line: count as u32 + 1,

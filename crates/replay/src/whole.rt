@@ -23,7 +23,7 @@ ghost use Rattle.text.specs.memory.RuleLines.{positionAt};
 ghost use Rattle.formula.specs.memory.Words.{truthWord};
 ghost use Rattle.formula.specs.memory.Kinds.{kindOf};
 ghost use Rattle.replay.specs.memory.Held.{held, openedIn, isValue, removedIn, isSplit, isConjunction, splitIn, refutedIn};
-ghost use Rattle.replay.specs.memory.Steps.{heldIn, Arranged, Few, Moved, ToldStep};
+ghost use Rattle.replay.specs.memory.Steps.{heldIn, Arranged, Few, Stepped, ToldStep};
 
 // The word at a place of the theory; 0 behind it.
 fn word_at(work: &[u32], full: usize, at: usize) -> u32
@@ -46,7 +46,7 @@ fn opened(
     top: u32,
 ) -> Live
     requires { ⌜ Arranged layout (length (now work)) × Few live × (index < live .count) × (at < live .full) × (live .count + many ≤ 1025) × (length (now text) ≤ 65536) × (names + many ≤ 200000) ⌝ }
-    ensures { λ r. ⌜ Moved (openedIn (heldIn layout live (now (work .entry))) (index, at) (numbersAt (now (text .entry)) names many) top) layout (now (work .entry)) r (now (work .exit)) ⌝ }
+    ensures { λ r. ⌜ Stepped (openedIn (heldIn layout live (now (work .entry))) (index, at) (numbersAt (now (text .entry)) names many) top) layout (now (work .entry)) r (now (work .exit)) ⌝ }
 {
     let rows = layout.rows;
     let full = front_without(&mut work[..rows], at, live.full, layout.next);
@@ -192,7 +192,7 @@ pub fn split(
 // Of the theory one formula is left, `false`.
 fn falsified(work: &mut [u32], layout: Layout, live: Live, name: u32) -> Live
     requires { ⌜ Arranged layout (length (now work)) ⌝ }
-    ensures { λ r. ⌜ Moved (done (held (truthWord false ∷ []) (name ∷ []) (live .top) true)) layout (now (work .entry)) r (now (work .exit)) ⌝ }
+    ensures { λ r. ⌜ Stepped (done (held (truthWord false ∷ []) (name ∷ []) (live .top) true)) layout (now (work .entry)) r (now (work .exit)) ⌝ }
 {
     let start = layout.names;
     work[0] = truth_word(false);

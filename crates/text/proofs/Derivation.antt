@@ -11,7 +11,7 @@ use Rattle.text.specs.Sizes.{greatestName, greatestPathNumber, grounderS
 use Rattle.text.specs.Bytes.{Bytes, bytes, next, isDigit, isPrintable}
 use Rattle.text.specs.Numbers.{decimal}
 use Rattle.text.specs.Outcome.{done}
-use Rattle.text.specs.Reading.{Reader, give, refuse, word, _⇒_, oneOf, separated}
+use Rattle.text.specs.Reading.{Reading, give, refuse, word, _⇒_, oneOf, separated}
 use Rattle.text.specs.Derivation.{Position, Rule, SNAND, SNOR, STN, EPRED, EPROP, IQ, RuleLine, rewrite, unsat, trivial, splitc, Line, step, footer}
 use Rattle.text.specs.Derivation.{inBounds, allInBounds, areNames, positionFits, newNamesFit, ruleLineFits, lineFits, isGrounder}
 use Rattle.text.specs.Derivation.{ruleText, numbersText, pathText, positionText, footerText, ruleLineText, lineText, versionText, grounderText}
@@ -60,7 +60,7 @@ reads-position =
     reads-then (reads-ranged 1 greatestName) _ λ n fits. reads-then reads-path _ λ is all. reads-give (ap₂ _&&_ fits all) refl
 
 -- one kind of line: what is read behind its word
-abbrev ReadsKind : Bytes × Reader Line → Type 0
+abbrev ReadsKind : Bytes × Reading Line → Type 0
 ReadsKind k = Reads (k .0) (λ l. lineFits l ≡ true) lineText (k .1)
 
 -- a rule line that begins with w and ends with its position

@@ -10,7 +10,7 @@ use lib.Seq.{drop-drop}
 use Rattle.text.specs.Bytes.{Bytes, begins, span}
 use Rattle.text.specs.Outcome.{Outcome, done, refused, mapped}
 use Rattle.text.specs.Outcome as outcome
-use Rattle.text.specs.Reading.{Reader, give, _>>=_, _>>_, require, word, token, _⇒_, oneOf}
+use Rattle.text.specs.Reading.{Reading, give, _>>=_, _>>_, require, word, token, _⇒_, oneOf}
 use Rattle.text.specs.memory.Found.{Found, Taken, Refused, WordFound}
 use Rattle.text.proofs.Reading.{begins-split}
 
@@ -18,13 +18,13 @@ module _ {A : Type 0} {text : Bytes} {at : ℕ} where
   pub found-give : (a : A) → at ≤ length text → Found (give a) text at a at
   found-give a h = record { is = refl; after = omega arith; within = h }
 
-  pub found-taken : {reader : Reader A} {a : A} {next : ℕ} → Found reader text at a next → at < next → Taken reader text at a next
+  pub found-taken : {reader : Reading A} {a : A} {next : ℕ} → Found reader text at a next → at < next → Taken reader text at a next
   found-taken f h = record { is = f .is; after = h; within = f .within }
 
-  pub taken-found : {reader : Reader A} {a : A} {next : ℕ} → Taken reader text at a next → Found reader text at a next
+  pub taken-found : {reader : Reading A} {a : A} {next : ℕ} → Taken reader text at a next → Found reader text at a next
   taken-found f = record { is = f .is; after = omega (arith, f .after); within = f .within }
 
-  module _ {B : Type 0} {r : Reader A} (k : A → Reader B) where
+  module _ {B : Type 0} {r : Reading A} (k : A → Reading B) where
     pub found-then : {a : A} {mid next : ℕ} {b : B} → Found r text at a mid → Found (k a) text mid b next → Found (r >>= k) text at b next
     found-then f g = record { is = rw (f .is) (g .is); after = omega (arith, f .after, g .after); within = g .within }
 
@@ -73,7 +73,7 @@ module _ (text : Bytes) (at : ℕ) where
       }
 
   -- what one reader finds is what another finds further on
-  module _ {A : Type 0} {reader : Reader A} (later : Reader A) {mid : ℕ} (same : reader (drop at text) ≡ later (drop mid text)) where
+  module _ {A : Type 0} {reader : Reading A} (later : Reading A) {mid : ℕ} (same : reader (drop at text) ≡ later (drop mid text)) where
     pub found-later : {a : A} {next : ℕ} → at ≤ mid → Found later text mid a next → Found reader text at a next
     found-later h f = record { is = same ∙ f .is; after = omega (arith, f .after); within = f .within }
 
@@ -81,7 +81,7 @@ module _ (text : Bytes) (at : ℕ) where
     refused-later f = record { is = same ∙ f .is }
 
   -- by the first word that the text begins with
-  module _ {A : Type 0} (w : Bytes) (r : Reader A) (kinds : List (Bytes × Reader A)) (last : Reader A) where
+  module _ {A : Type 0} (w : Bytes) (r : Reading A) (kinds : List (Bytes × Reading A)) (last : Reading A) where
     pub oneOf-this : {next : ℕ} → WordFound w text at next → oneOf (w ⇒ r ∷ kinds) last (drop at text) ≡ r (drop next text)
     unfolding oneOf
     oneOf-this f = rw (f .stands, drop-drop, ← f .ends)
@@ -97,7 +97,7 @@ module _ (text : Bytes) (at : ℕ) where
 
 -- A thing that is made of another, which passed the same test.
 
-pub made-mapped : {A B : Type 0} (r : Reader A) (test : A → Reader (Unit {0})) (f : A → B) (s : Bytes)
+pub made-mapped : {A B : Type 0} (r : Reading A) (test : A → Reading (Unit {0})) (f : A → B) (s : Bytes)
     → (r >>= λ a. test a >> give (f a)) s ≡ mapped (λ p. (f (p .0), p .1)) ((r >>= λ a. test a >> give a) s)
 made-mapped {A} r test f s = first (r s)
   where
@@ -112,7 +112,7 @@ made-mapped {A} r test f s = first (r s)
     first (done p) = second (p .0) (test (p .0) (p .1))
     first (refused e) = refl
 
-module _ (text : Bytes) (at : ℕ) {A B : Type 0} (f : A → B) {mid : ℕ} {r : Reader B} {q : Reader A}
+module _ (text : Bytes) (at : ℕ) {A B : Type 0} (f : A → B) {mid : ℕ} {r : Reading B} {q : Reading A}
     (same : r (drop at text) ≡ mapped (λ p. (f (p .0), p .1)) (q (drop mid text))) where
   pub found-made : at ≤ mid → {a : A} {next : ℕ} → Found q text mid a next → Found r text at (f a) next
   found-made h g = record { is = same ∙ rw (g .is); after = omega (arith, g .after); within = g .within }

@@ -9,12 +9,12 @@ use lib.Dec.{ltb}
 use lib.ListN.{length, drop, length-drop, drop-of-length-le}
 use Rattle.text.specs.Bytes.{Bytes}
 use Rattle.text.specs.Outcome.{Outcome, done, refused, _>>=_}
-use Rattle.text.specs.Reading.{Reader}
+use Rattle.text.specs.Reading.{Reading}
 use Rattle.text.specs.Lines.{Judged, refusal, onLine, readLines, readText}
 use Rattle.text.proofs.Lines.{readLines-step, readLines-end}
 use Rattle.text.specs.memory.Going.{Going}
 
-module _ {S A : Type 0} (file : ℕ) (line : S → Reader S) (finish : S → Outcome ℕ A) (text : Bytes) where
+module _ {S A : Type 0} (file : ℕ) (line : S → Reading S) (finish : S → Outcome ℕ A) (text : Bytes) where
   pub going-first : (state : S) → Going file line finish (readText file line finish state text) text 0 1 state
   going-first state = record { most = length text; is = refl; enough = omega arith; within = omega arith }
 

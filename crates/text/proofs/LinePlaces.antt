@@ -14,7 +14,7 @@ use Rattle.text.specs.Sizes.{greatestName, greatestPathNumber, grounderS
 use Rattle.text.specs.Bytes as bytes
 use Rattle.text.specs.Bytes.{Bytes, bytes, begins, isPrintable, span}
 use Rattle.text.specs.Outcome.{Outcome}
-use Rattle.text.specs.Reading.{Reader, refuse, give, token, _⇒_, oneOf, readNumber, separated}
+use Rattle.text.specs.Reading.{Reading, refuse, give, token, _⇒_, oneOf, readNumber, separated}
 use Rattle.text.specs.Derivation.{Position, RuleLine, Line, step, inBounds, isGrounder}
 use Rattle.text.specs.Derivation.{readRanged, readFormulaName, readPath, readPosition, atPosition, readSplit, readFooter, readLine}
 use Rattle.text.specs.Derivation.{versionText, readVersion, readGrounder}
@@ -77,7 +77,7 @@ module _ (least greatest : ℕ) (text : Bytes) (at : ℕ) where
 -- Numbers with commas between them.
 
 module _ (least greatest : ℕ) where
-  abbrev numbers : Reader (List ℕ)
+  abbrev numbers : Reading (List ℕ)
   numbers = separated 44 (readRanged least greatest)
 
   -- some numbers are read, and the list goes on at a place
@@ -280,7 +280,7 @@ module _ {text : Bytes} {at : ℕ} where
 
 -- The kind of a line, by its word.
 
-module _ (text : Bytes) (at : ℕ) (w : Bytes) (r : Reader Line) (kinds : List (Bytes × Reader Line)) {outcome : Outcome ℕ (Line × Bytes)}
+module _ (text : Bytes) (at : ℕ) (w : Bytes) (r : Reading Line) (kinds : List (Bytes × Reading Line)) {outcome : Outcome ℕ (Line × Bytes)}
     (is : outcome ≡ oneOf (w ⇒ r ∷ kinds) (refuse 10) (drop at text)) where
   pub kind-other : begins w (drop at text) ≡ false → outcome ≡ oneOf kinds (refuse 10) (drop at text)
   kind-other e = is ∙ oneOf-other text at w r kinds (refuse 10) e
@@ -296,7 +296,7 @@ kind-none text at e = e
 
 -- A line, by its kind and by what follows.
 
-module _ (text : Bytes) (at : ℕ) {tail : Reader Line} {mid : ℕ} (behind : Behind (readLine (drop at text)) tail text at mid) where
+module _ (text : Bytes) (at : ℕ) {tail : Reading Line} {mid : ℕ} (behind : Behind (readLine (drop at text)) tail text at mid) where
   line-refused : Refused 10 tail text mid → Refused 10 readLine text at
   line-refused f = record { is = behind .is ∙ f .is }
 

@@ -8,20 +8,20 @@ use lib.ListN.{length, drop}
 use lib.Seq.{drop-drop}
 use Rattle.text.specs.Bytes as bytes
 use Rattle.text.specs.Bytes.{Bytes}
-use Rattle.text.specs.Reading.{Reader, separated}
+use Rattle.text.specs.Reading.{Reading, separated}
 use Rattle.text.specs.memory.Found.{Found, Refused}
 use Rattle.text.proofs.Outcome.{Allowed}
 use Rattle.text.proofs.FoundBytes.{byte-inside}
 use Rattle.text.proofs.Separated.{prepended, prepended-none, prepended-more, separated-refused, separated-last, separated-more}
 
-pub record Listing {A : Type 0} (separator : ℕ) (item : Reader A) (text : Bytes) (at : ℕ) (items : List A) (i : ℕ) : Type 0 where
+pub record Listing {A : Type 0} (separator : ℕ) (item : Reading A) (text : Bytes) (at : ℕ) (items : List A) (i : ℕ) : Type 0 where
   pub is : separated separator item (drop at text) ≡ prepended items (separated separator item (drop i text))
   pub after : at ≤ i
   pub within : i ≤ length text
 
-module _ {A : Type 0} (separator : ℕ) (nonzero : 0 < separator) (item : Reader A) (shrinks : (s : Bytes) → Allowed (λ p. length (p .1) ≤ length s) (item s))
+module _ {A : Type 0} (separator : ℕ) (nonzero : 0 < separator) (item : Reading A) (shrinks : (s : Bytes) → Allowed (λ p. length (p .1) ≤ length s) (item s))
     (text : Bytes) (at : ℕ) where
-  abbrev all : Reader (List A)
+  abbrev all : Reading (List A)
   all = separated separator item
 
   pub listing-first : at ≤ length text → Listing separator item text at [] at

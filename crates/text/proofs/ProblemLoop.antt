@@ -15,7 +15,7 @@ use Rattle.text.specs.memory.ProblemLines.{partAt, partIn, Standing, Par
 use Rattle.text.specs.declared.problem_line.Stage.{Stage}
 use Rattle.text.specs.declared.problem_line.Stage.the-variants.{Start, Declaring, Awaiting, Closing}
 use Rattle.text.specs.declared.problem_line.Progress.{Progress}
-use Rattle.text.specs.declared.problem_line.LineRead.{LineRead}
+use Rattle.text.specs.declared.problem_line.ProblemLineRead.{ProblemLineRead}
 use Rattle.text.specs.declared.problem_line.ProblemRead.{ProblemRead}
 use Rattle.text.proofs.Going.{going-first, going-on, going-refused, going-end}
 use Rattle.text.proofs.Outcome.{allowed-done}
@@ -90,7 +90,7 @@ module _ (text : Bytes) (p : Progress) (rows : List ℕ) where
 
 -- A line where the reading stands.
 
-module _ (text : Bytes) (at : ℕ) (p : Progress) (r : LineRead) (rows : List ℕ) (standing : Standing text p rows) where
+module _ (text : Bytes) (at : ℕ) (p : Progress) (r : ProblemLineRead) (rows : List ℕ) (standing : Standing text p rows) where
   abbrev P : Problem
   P = problemIn text (p .table) rows
 

@@ -12,7 +12,7 @@ use borrow.Author.Tests.{eq-eqb, ne-eqb, lt-leb, le-leb, leb-true, lt-ltb, le-lt
 use Rattle.text.specs.Sizes.{domainSize, greatestArity, nameSize, predicateCount}
 use Rattle.text.specs.Bytes.{Bytes, bytes, begins}
 use Rattle.text.specs.Outcome.{mapped}
-use Rattle.text.specs.Reading.{Reader, require}
+use Rattle.text.specs.Reading.{Reading, require}
 use Rattle.text.specs.Problem.{Predicate, Problem, predicates, named, tupleTotal, domainFits, predicateFits, readDomain, readPredicate}
 use Rattle.text.specs.Problem.{Part, start, declaring, awaiting, closing, readInput, readOutput, problemLine, withOutput}
 use Rattle.text.specs.memory.Table.{position, indexed, tableName, tableNames, tablePredicate, problemIn, Columns, withDomain, withName, counted}
@@ -24,7 +24,7 @@ use Rattle.text.specs.declared.number.Number.the-variants.{Value, Beyond
 use Rattle.text.specs.declared.declaration.Declaration.the-variants as declaration
 use Rattle.text.specs.declared.problem_line.Stage.the-variants.{Start, Declaring, Awaiting, Closing}
 use Rattle.text.specs.declared.problem_line.Progress.{Progress}
-use Rattle.text.specs.declared.problem_line.LineRead.{LineRead}
+use Rattle.text.specs.declared.problem_line.ProblemLineRead.{ProblemLineRead}
 use Rattle.text.specs.declared.problem_line.DeclaredRead.{DeclaredRead}
 use Rattle.text.specs.declared.table.Table.{Table}
 use Rattle.text.proofs.Bytes.{range-below, range-above, range-within}
@@ -139,7 +139,7 @@ module _ (text : Bytes) (at : ℕ) (table : Table) where
 -- The line `domain=`.
 
 module _ (text : Bytes) (at : ℕ) (p : Progress) where
-  module _ (reader : List ℕ → Reader Part) where
+  module _ (reader : List ℕ → Reading Part) where
     line-failed : (number : ℕ) → (number ≡ 0 → ⊥) → ((rows : List ℕ) → Standing text p rows → Refused number (reader rows) text at)
         → LineTold reader text at p (failedLine number at p)
     line-failed zero h k = absurd (h refl)
@@ -305,8 +305,8 @@ module _ (text : Bytes) (at : ℕ) (p : Progress) where
 
 -- A line where inputs or outputs may follow.
 
-module _ (text : Bytes) (at : ℕ) (p : Progress) (r : LineRead) where
-  line-behind : (reader later : List ℕ → Reader Part) {mid : ℕ} → at ≤ mid → ((rows : List ℕ) → reader rows (drop at text) ≡ later rows (drop mid text))
+module _ (text : Bytes) (at : ℕ) (p : Progress) (r : ProblemLineRead) where
+  line-behind : (reader later : List ℕ → Reading Part) {mid : ℕ} → at ≤ mid → ((rows : List ℕ) → reader rows (drop at text) ≡ later rows (drop mid text))
       → LineTold later text mid p r → LineTold reader text at p r
   line-behind reader later {mid} h same f = record { told = λ rows standing. pick rows (r .number) (f .told rows standing) }
     where
@@ -319,7 +319,7 @@ module _ (text : Bytes) (at : ℕ) (p : Progress) (r : LineRead) where
           }
       pick rows (suc number) g = refused-later text at (later rows) (same rows) g
 
-  abbrev declares : List ℕ → Reader Part
+  abbrev declares : List ℕ → Reading Part
   declares rows = problemLine (declaring (joined text at p rows))
 
   pub declaring-input : WordFound (bytes "input=") text at (at + 6) → LineTold (λ rows. readInput (joined text at p rows)) text (at + 6) p r

@@ -13,7 +13,7 @@ use borrow.Author.Tests.{eqb-true, eq-eqb, ne-eqb, not-true}
 use Rattle.text.specs.Bytes.{Bytes, next, every, isDigit, begins, span, joined, followed}
 use Rattle.text.specs.Numbers.{isNumber, decimal}
 use Rattle.text.specs.Outcome.{done, provided}
-use Rattle.text.specs.Reading.{Reader, give, refuse, require, _>>=_, word, run, token, readNumber, _⇒_, oneOf, further, separated}
+use Rattle.text.specs.Reading.{Reading, give, refuse, require, _>>=_, word, run, token, readNumber, _⇒_, oneOf, further, separated}
 use Rattle.text.proofs.Laws.{and-left, and-right, Each}
 use Rattle.text.proofs.Numbers.{value-decimal, decimal-value, isNumber-decimal, every-decimal}
 use Rattle.text.proofs.Outcome.{Allowed, allowed-bind, allowed-mapped, allowed-weaken, allowed-provided}
@@ -34,7 +34,7 @@ abbrev pub Read : {A : Type 0} → (A → Type 0) → (A → Bytes) → Bytes �
 Read Fits text s p = Fits (p .0) × (s ≡ text (p .0) ++ p .1)
 
 -- whatever r reads behind some bytes fits, and has the text of these bytes and of those that r took
-pub record Reads {A : Type 0} (before : Bytes) (Fits : A → Type 0) (text : A → Bytes) (r : Reader A) : Type 0 where
+pub record Reads {A : Type 0} (before : Bytes) (Fits : A → Type 0) (text : A → Bytes) (r : Reading A) : Type 0 where
   pub sound : (s : Bytes) → Allowed (Read Fits text (before ++ s)) (r s)
 
 module _ {A : Type 0} {before : Bytes} {Fits : A → Type 0} {text : A → Bytes} where
@@ -44,7 +44,7 @@ module _ {A : Type 0} {before : Bytes} {Fits : A → Type 0} {text : A → Bytes
   pub reads-give : {a : A} → Fits a → before ≡ text a → Reads before Fits text (give a)
   reads-give fits e = record { sound = λ s. (fits, rw e) }
 
-  pub reads-then : {B : Type 0} {Part : B → Type 0} {partText : B → Bytes} {r : Reader B} → Reads [] Part partText r → (k : B → Reader A)
+  pub reads-then : {B : Type 0} {Part : B → Type 0} {partText : B → Bytes} {r : Reading B} → Reads [] Part partText r → (k : B → Reading A)
       → ((b : B) → Part b → Reads (before ++ partText b) Fits text (k b)) → Reads before Fits text (r >>= k)
   reads-then {B} {Part} {partText} {r} first k rest =
       record { sound = λ s. allowed-bind (Read Part partText s) (Read Fits text (before ++ s)) _ (onward s) (r s) (first .sound s) }
@@ -53,13 +53,13 @@ module _ {A : Type 0} {before : Bytes} {Fits : A → Type 0} {text : A → Bytes
       onward s p q = rw (q .1, ← append-assoc) (rest (p .0) (q .0) .sound (p .1))
 
   -- what is known to fit, and its text, may be put otherwise
-  pub reads-weaken : {Part : A → Type 0} {partText : A → Bytes} {r : Reader A} → Reads before Part partText r
+  pub reads-weaken : {Part : A → Type 0} {partText : A → Bytes} {r : Reading A} → Reads before Part partText r
       → ((a : A) → Part a → Fits a × (partText a ≡ text a)) → Reads before Fits text r
   reads-weaken {r = r} reads h =
       record { sound = λ s. allowed-weaken _ _ (λ p q. let k = h (p .0) (q .0) in (k .0, q .1 ∙ ap (λ t. t ++ p .1) (k .1))) (r s) (reads .sound s) }
 
   -- one or other reader, by a test
-  pub reads-cond : (test : Bytes → Bool) {r q : Reader A} → Reads before Fits text r → Reads before Fits text q
+  pub reads-cond : (test : Bytes → Bool) {r q : Reading A} → Reads before Fits text r → Reads before Fits text q
       → Reads before Fits text (λ s. cond (test s) r q s)
   reads-cond test {r} {q} one other = record { sound = λ s. pick s (test s) }
     where
@@ -111,7 +111,7 @@ reads-number number = reads-then (reads-token isDigit number isNumber) _ λ ds h
 
 module _ {A : Type 0} {before : Bytes} {Fits : A → Type 0} {text : A → Bytes} where
   -- r behind w where a test says that w stands there, and q where it does not
-  reads-behind : (test : Bytes → Bool) (w : Bytes) → ((s : Bytes) → test s ≡ true → s ≡ w ++ drop (length w) s) → {r q : Reader A}
+  reads-behind : (test : Bytes → Bool) (w : Bytes) → ((s : Bytes) → test s ≡ true → s ≡ w ++ drop (length w) s) → {r q : Reading A}
       → Reads (before ++ w) Fits text r → Reads before Fits text q → Reads before Fits text (λ s. cond (test s) (λ t. r (drop (length w) t)) q s)
   reads-behind test w stands {r} {q} one other = record { sound = λ s. pick s (test s) refl }
     where
@@ -121,14 +121,14 @@ module _ {A : Type 0} {before : Bytes} {Fits : A → Type 0} {text : A → Bytes
           (append-assoc before w _ ∙ ap (λ t. before ++ t) (sym (stands s e))) (one .sound (drop (length w) s))
       pick s false e = other .sound s
 
-  pub reads-oneOf : (kinds : List (Bytes × Reader A)) (last : Reader A) → Each (λ k. Reads (before ++ k .0) Fits text (k .1)) kinds
+  pub reads-oneOf : (kinds : List (Bytes × Reading A)) (last : Reading A) → Each (λ k. Reads (before ++ k .0) Fits text (k .1)) kinds
       → Reads before Fits text last → Reads before Fits text (oneOf kinds last)
   unfolding oneOf
   reads-oneOf [] last each other = other
   reads-oneOf (k ∷ kinds) last each other =
       reads-behind (begins (k .0)) (k .0) (begins-split (k .0)) (each .0) (reads-oneOf kinds last (each .1) other)
 
-module _ {A : Type 0} {Fits : A → Type 0} {text : A → Bytes} {item : Reader A} (reads : Reads [] Fits text item)
+module _ {A : Type 0} {Fits : A → Type 0} {text : A → Bytes} {item : Reading A} (reads : Reads [] Fits text item)
     (separator : ℕ) (nonzero : 0 < separator) where
   next-split : (s : Bytes) → eqb (next s) separator ≡ true → s ≡ separator ∷ drop 1 s
   next-split [] e = let z = eqb-true 0 separator e in absurd (omega arith)
@@ -152,7 +152,7 @@ module _ {A : Type 0} {Fits : A → Type 0} {text : A → Bytes} {item : Reader 
 -- The text of a thing is read as that thing.
 
 -- r reads the text of a as a, where no byte of a class follows that could belong to it
-abbrev pub ReadsBack : {A : Type 0} → (ℕ → Bool) → (A → Bytes) → Reader A → A → Type 0
+abbrev pub ReadsBack : {A : Type 0} → (ℕ → Bool) → (A → Bytes) → Reading A → A → Type 0
 ReadsBack class text r a = (u : Bytes) → class (next u) ≡ false → r (text a ++ u) ≡ done (a, u)
 
 begins-append : (w u : Bytes) → begins w (w ++ u) ≡ true
@@ -180,7 +180,7 @@ unfolding readNumber
 read-number number v u ends =
     rw (read-token number isDigit isNumber (decimal v) (every-decimal v) (isNumber-decimal v) u ends, value-decimal v)
 
-module _ {A : Type 0} (class : ℕ → Bool) (text : A → Bytes) (item : Reader A) (separator : ℕ) (ends : class separator ≡ false) where
+module _ {A : Type 0} (class : ℕ → Bool) (text : A → Bytes) (item : Reading A) (separator : ℕ) (ends : class separator ≡ false) where
   followed-ends : (items : List A) (u : Bytes) → class (next u) ≡ false → class (next (followed separator (map text items) ++ u)) ≡ false
   followed-ends [] u closed = closed
   followed-ends (a ∷ items) u closed = ends
@@ -211,13 +211,13 @@ pub next-append : (class : ℕ → Bool) (w u : Bytes) → class 0 ≡ false →
 next-append class [] u none first = absurd (false≢true (sym none ∙ first))
 next-append class (b ∷ w) u none first = first
 
-pub oneOf-word : {A : Type 0} (w : Bytes) (r : Reader A) (kinds : List (Bytes × Reader A)) (last : Reader A) (u : Bytes)
+pub oneOf-word : {A : Type 0} (w : Bytes) (r : Reading A) (kinds : List (Bytes × Reading A)) (last : Reading A) (u : Bytes)
     → oneOf (w ⇒ r ∷ kinds) last (w ++ u) ≡ r u
 unfolding oneOf
 oneOf-word w r kinds last u = rw (begins-append w u, drop-append-seam w u)
 
 -- every word begins with a byte, and that is not of the class
-abbrev pub beginOutside : {A : Type 0} → (ℕ → Bool) → List (Bytes × Reader A) → Bool
+abbrev pub beginOutside : {A : Type 0} → (ℕ → Bool) → List (Bytes × Reading A) → Bool
 beginOutside class [] = true
 beginOutside class (([], r) ∷ kinds) = false
 beginOutside class ((b ∷ w, r) ∷ kinds) = not (class b) && beginOutside class kinds
@@ -226,7 +226,7 @@ begins-outside : (class : ℕ → Bool) (b : ℕ) (w s : Bytes) → not (class b
 begins-outside class b w [] outside inside = refl
 begins-outside class b w (c ∷ s) outside inside = rw (ne-eqb b c (λ e. false≢true (sym (not-true (class b) outside) ∙ ap class e ∙ inside)))
 
-pub oneOf-last : {A : Type 0} (class : ℕ → Bool) (kinds : List (Bytes × Reader A)) (last : Reader A) (s : Bytes)
+pub oneOf-last : {A : Type 0} (class : ℕ → Bool) (kinds : List (Bytes × Reading A)) (last : Reading A) (s : Bytes)
     → beginOutside class kinds ≡ true → class (next s) ≡ true → oneOf kinds last s ≡ last s
 unfolding oneOf
 oneOf-last class [] last s outside inside = refl

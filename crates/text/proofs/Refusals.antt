@@ -11,7 +11,7 @@ use lib.ListN.{length, drop}
 use Rattle.text.specs.Bytes.{Bytes, next, begins, isDigit}
 use Rattle.text.specs.Numbers.{isNumber, value}
 use Rattle.text.specs.Outcome.{Outcome, done, refused, mapped, provided, _>>=_}
-use Rattle.text.specs.Reading.{Reader, give, refuse, judge, word, token, readNumber, _⇒_, oneOf, further, separated}
+use Rattle.text.specs.Reading.{Reading, give, refuse, judge, word, token, readNumber, _⇒_, oneOf, further, separated}
 use Rattle.text.specs.Reading as reading
 use Rattle.text.specs.Lines.{Refusal, onLine, readLines, readText}
 use Rattle.text.specs.Problem.{Problem, readName, Relation, truthValue, tuples, readDomain, readPredicate, readTuples, readRelation, rowsFor}
@@ -50,12 +50,12 @@ pub ruleset outcomes = (never, only, refuses-bind, refuses-mapped, refuses-provi
 
 -- Readers, on every text; alternatives, each of them.
 
-abbrev pub OnlyRefuses : {A : Type 0} → (ℕ → Type 0) → Reader A → Type 0
+abbrev pub OnlyRefuses : {A : Type 0} → (ℕ → Type 0) → Reading A → Type 0
 OnlyRefuses N r = (s : Bytes) → Refuses N (r s)
 
-pub data EachRefuses {A : Type 0} (N : ℕ → Type 0) : List (Bytes × Reader A) → Type 0 where
+pub data EachRefuses {A : Type 0} (N : ℕ → Type 0) : List (Bytes × Reading A) → Type 0 where
   no-alternative : EachRefuses N []
-  alternative : {w : Bytes} {r : Reader A} {rest : List (Bytes × Reader A)} → OnlyRefuses N r → EachRefuses N rest → EachRefuses N (w ⇒ r ∷ rest)
+  alternative : {w : Bytes} {r : Reading A} {rest : List (Bytes × Reading A)} → OnlyRefuses N r → EachRefuses N rest → EachRefuses N (w ⇒ r ∷ rest)
 
 module _ {N : ℕ → Type 0} where
   pub only-give : {A : Type 0} (a : A) → OnlyRefuses N (give a)
@@ -64,7 +64,7 @@ module _ {N : ℕ → Type 0} where
   pub only-refuse : {A : Type 0} (number : ℕ) → N number → OnlyRefuses N (refuse {A = A} number)
   only-refuse number n s = only n
 
-  pub only-bind : {A B : Type 0} {r : Reader A} {k : A → Reader B} → OnlyRefuses N r → ((a : A) → OnlyRefuses N (k a)) → OnlyRefuses N (reading._>>=_ r k)
+  pub only-bind : {A B : Type 0} {r : Reading A} {k : A → Reading B} → OnlyRefuses N r → ((a : A) → OnlyRefuses N (k a)) → OnlyRefuses N (reading._>>=_ r k)
   only-bind h q s = refuses-bind (h s) (λ p. q (p .0) (p .1))
 
   pub only-judge : {A : Type 0} {o : Outcome ℕ A} → Refuses N o → OnlyRefuses N (judge o)
@@ -83,27 +83,27 @@ module _ {N : ℕ → Type 0} where
   only-number number n = only-bind (only-token number isDigit isNumber n) (λ ds. only-give (value ds))
 
   -- one reader or the other, by what the text begins with
-  pub only-cond : {A : Type 0} (b : Bytes → Bool) {r q : Reader A} → OnlyRefuses N r → OnlyRefuses N q → OnlyRefuses N (λ s. cond (b s) r q s)
+  pub only-cond : {A : Type 0} (b : Bytes → Bool) {r q : Reading A} → OnlyRefuses N r → OnlyRefuses N q → OnlyRefuses N (λ s. cond (b s) r q s)
   only-cond b {r} {q} h k s = pick (b s)
     where
       pick : (c : Bool) → Refuses N (cond c r q s)
       pick true = h s
       pick false = k s
 
-  pub only-oneOf : {A : Type 0} {alternatives : List (Bytes × Reader A)} {r : Reader A}
+  pub only-oneOf : {A : Type 0} {alternatives : List (Bytes × Reading A)} {r : Reading A}
       → EachRefuses N alternatives → OnlyRefuses N r → OnlyRefuses N (oneOf alternatives r)
   unfolding oneOf
   only-oneOf no-alternative k = k
   only-oneOf (alternative {w} h hs) k = only-cond (begins w) (λ s. h (drop (length w) s)) (only-oneOf hs k)
 
-  only-further : {A : Type 0} (separator : ℕ) {item : Reader A} → OnlyRefuses N item → (most : ℕ) → OnlyRefuses N (further separator item most)
+  only-further : {A : Type 0} (separator : ℕ) {item : Reading A} → OnlyRefuses N item → (most : ℕ) → OnlyRefuses N (further separator item most)
   unfolding further
   only-further separator h zero = only-give []
   only-further separator h (suc most) =
       only-cond (λ s. eqb (next s) separator)
       (λ s. only-bind h (λ a. only-bind (only-further separator h most) (λ rest. only-give (a ∷ rest))) (drop 1 s)) (only-give [])
 
-  pub only-separated : {A : Type 0} (separator : ℕ) {item : Reader A} → OnlyRefuses N item → OnlyRefuses N (separated separator item)
+  pub only-separated : {A : Type 0} (separator : ℕ) {item : Reading A} → OnlyRefuses N item → OnlyRefuses N (separated separator item)
   unfolding separated
   only-separated separator h = only-bind h (λ a. only-bind (λ s. only-further separator h (length s) s) (λ rest. only-give (a ∷ rest)))
 
@@ -119,7 +119,7 @@ pub record From (file line : ℕ) (N : ℕ → Type 0) (r : Refusal) : Type 0 wh
   pub filed : r .file ≡ file
   pub lined : line ≤ r .line
 
-module _ {N : ℕ → Type 0} {S A : Type 0} (file : ℕ) {line : S → Reader S} {finish : S → Outcome ℕ A}
+module _ {N : ℕ → Type 0} {S A : Type 0} (file : ℕ) {line : S → Reading S} {finish : S → Outcome ℕ A}
     (each : (state : S) → OnlyRefuses N (line state)) (end : (state : S) → Refuses N (finish state)) where
   onLine-refuses : {B : Type 0} {o : Outcome ℕ B} (k : ℕ) → 1 ≤ k → Refuses N o → Refuses (From file 1 N) (onLine file k o)
   onLine-refuses k h (never a) = never a

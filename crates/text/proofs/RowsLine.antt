@@ -6,7 +6,7 @@ use mathlib.Core.Path.{_≡_, refl, ap, _∙_}
 use mathlib.Core.List.{List, [], _∷_}
 use lib.ListN.{length, getD, drop}
 use Rattle.text.specs.Bytes.{Bytes}
-use Rattle.text.specs.Reading.{Reader, give, judge, _>>=_}
+use Rattle.text.specs.Reading.{Reading, give, judge, _>>=_}
 use Rattle.text.specs.Problem.{Predicate, Problem, tupleTotal, readRelation, rowsFor, Part, declaring, awaiting, withInput, problemLine}
 use Rattle.text.specs.memory.Found.{Taken, Refused}
 use Rattle.text.specs.memory.Table.{tablePredicate, problemIn, Columns}
@@ -45,7 +45,7 @@ module _ (text : Bytes) (at : ℕ) (p : Progress) (old : List ℕ) (standing : S
   pub awaited-room : (p .table .count < 32) × (p .table .inputs < 32) × (p .used ≤ 1056)
   awaited-room = let a = awaited in (a .1, omega arith, omega (arith, standing .short, standing .room))
 
-  abbrev rest : Reader Part
+  abbrev rest : Reading Part
   rest = readRows P (q .arity) >>= λ rows. give (declaring (withInput P q rows))
 
   module _ (new : List ℕ) where

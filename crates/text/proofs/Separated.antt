@@ -12,7 +12,7 @@ use borrow.Author.Tests.{ne-eqb, eq-eqb}
 use Rattle.text.specs.Bytes.{Bytes, next}
 use Rattle.text.specs.Outcome.{Outcome, done, refused, mapped}
 use Rattle.text.specs.Outcome as outcome
-use Rattle.text.specs.Reading.{Reader, give, further, separated}
+use Rattle.text.specs.Reading.{Reading, give, further, separated}
 use Rattle.text.proofs.Outcome.{Allowed, allowed-weaken}
 use Rattle.text.proofs.Reading.{Reads}
 
@@ -30,12 +30,12 @@ prepended-more items more (done p) = ap (λ l. done (l, p .1)) (sym (append-asso
 prepended-more items more (refused number) = refl
 
 -- what is read is no longer than what it was read from
-pub reads-shrinks : {A : Type 0} {Fits : A → Type 0} {text : A → Bytes} {r : Reader A} → Reads [] Fits text r
+pub reads-shrinks : {A : Type 0} {Fits : A → Type 0} {text : A → Bytes} {r : Reading A} → Reads [] Fits text r
     → (s : Bytes) → Allowed (λ p. length (p .1) ≤ length s) (r s)
 reads-shrinks {text = text} {r = r} reads s =
     allowed-weaken _ _ (λ p q. omega (arith, simp length-append at (ap length (q .1)))) (r s) (reads .sound s)
 
-module _ {A : Type 0} (separator : ℕ) (nonzero : 0 < separator) (item : Reader A) (shrinks : (s : Bytes) → Allowed (λ p. length (p .1) ≤ length s) (item s)) where
+module _ {A : Type 0} (separator : ℕ) (nonzero : 0 < separator) (item : Reading A) (shrinks : (s : Bytes) → Allowed (λ p. length (p .1) ≤ length s) (item s)) where
   -- an item and those behind it
   abbrev pub listed : ℕ → Outcome ℕ (A × Bytes) → Outcome ℕ (List A × Bytes)
   listed most o = outcome._>>=_ o λ p. outcome._>>=_ (further separator item most (p .1)) λ q. done (p .0 ∷ q .0, q .1)

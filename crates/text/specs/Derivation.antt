@@ -7,7 +7,7 @@ use lib.ListN.{length}
 use Rattle.text.specs.Sizes.{greatestName, greatestPathNumber, grounderSize}
 use Rattle.text.specs.Bytes.{Bytes, bytes, every, isPrintable, joined}
 use Rattle.text.specs.Numbers.{decimal}
-use Rattle.text.specs.Reading.{Reader, give, refuse, require, _>>=_, _>>_, word, token, readNumber, _⇒_, oneOf, separated}
+use Rattle.text.specs.Reading.{Reading, give, refuse, require, _>>=_, _>>_, word, token, readNumber, _⇒_, oneOf, separated}
 
 -- a formula's name, and a path in it
 pub record Position : Type 0 where
@@ -124,32 +124,32 @@ derivationText D = versionText ++ (grounderText (D .grounder) ++ ruleLinesText (
 -- Their reading.
 
 -- a number from `least` to `greatest`
-unfoldable pub readRanged : ℕ → ℕ → Reader ℕ
+unfoldable pub readRanged : ℕ → ℕ → Reading ℕ
 readRanged least greatest = do
   n ← readNumber 10
   require 10 (inBounds least greatest n)
   give n
 
-unfoldable pub readFormulaName : Reader ℕ
+unfoldable pub readFormulaName : Reading ℕ
 readFormulaName = readRanged 1 greatestName
 
-unfoldable pub readPath : Reader (List ℕ)
+unfoldable pub readPath : Reading (List ℕ)
 readPath = oneOf (bytes "[" ⇒ (do is ← separated 44 (readRanged 0 greatestPathNumber); word 10 (bytes "]"); give is) ∷ []) (give [])
 
-unfoldable pub readPosition : Reader Position
+unfoldable pub readPosition : Reading Position
 readPosition = do
   n ← readFormulaName
   is ← readPath
   give (record { name = n; path = is })
 
 -- a rule line that ends with its position
-abbrev pub atPosition : (Position → RuleLine) → Reader Line
+abbrev pub atPosition : (Position → RuleLine) → Reading Line
 atPosition make = do
   p ← readPosition
   word 10 (bytes "\n")
   give (step (make p))
 
-unfoldable pub readSplit : Reader Line
+unfoldable pub readSplit : Reading Line
 readSplit = do
   p ← readPosition
   word 10 (bytes " -> ")
@@ -157,7 +157,7 @@ readSplit = do
   word 10 (bytes "\n")
   give (step (splitc p names))
 
-unfoldable pub readFooter : Reader Line
+unfoldable pub readFooter : Reading Line
 readFooter = do
   names ← oneOf (bytes "-" ⇒ give [] ∷ []) (separated 44 readFormulaName)
   word 10 (bytes "\n")
@@ -166,7 +166,7 @@ readFooter = do
 abbrev pub rewriteRules : List Rule
 rewriteRules = SNAND ∷ SNOR ∷ STN ∷ EPRED ∷ EPROP ∷ IQ ∷ []
 
-unfoldable pub lineKinds : List (Bytes × Reader Line)
+unfoldable pub lineKinds : List (Bytes × Reading Line)
 lineKinds =
     map (λ r. (ruleText r ++ bytes " @ ") ⇒ atPosition (rewrite r)) rewriteRules
     ++ (bytes "UNSAT @ " ⇒ atPosition unsat
@@ -176,14 +176,14 @@ lineKinds =
     ∷ [])
 
 -- a rule line, or the footer
-unfoldable pub readLine : Reader Line
+unfoldable pub readLine : Reading Line
 readLine = oneOf lineKinds (refuse 10)
 
 -- the heading's two lines
-unfoldable pub readVersion : Reader (Unit {0})
+unfoldable pub readVersion : Reading (Unit {0})
 readVersion = word 10 versionText
 
-unfoldable pub readGrounder : Reader Bytes
+unfoldable pub readGrounder : Reading Bytes
 readGrounder = do
   word 10 (bytes "grounder=")
   g ← token 10 isPrintable isGrounder

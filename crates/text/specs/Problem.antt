@@ -7,7 +7,7 @@ use lib.ListN.{length}
 use Rattle.text.specs.Sizes.{domainSize, predicateCount, greatestArity, nameSize, tupleCount}
 use Rattle.text.specs.Bytes.{Bytes, bytes, next, same, member, every, isCapital, isLetterOrDigit}
 use Rattle.text.specs.Outcome.{Outcome, done, refused, mapped, provided}
-use Rattle.text.specs.Reading.{Reader, give, judge, require, _>>=_, _>>_, word, token, readNumber, _⇒_, oneOf, separated}
+use Rattle.text.specs.Reading.{Reading, give, judge, require, _>>=_, _>>_, word, token, readNumber, _⇒_, oneOf, separated}
 use Rattle.text.specs.Lines.{Judged, isLF, readText}
 
 abbrev pub Name : Type 0
@@ -70,14 +70,14 @@ isElement n v = leb 1 v && leb v n
 abbrev pub isName : Name → Bool
 isName w = isCapital (next w) && every isLetterOrDigit w
 
-unfoldable pub readName : ℕ → Reader Name
+unfoldable pub readName : ℕ → Reading Name
 readName number = token number isLetterOrDigit isName
 
 pub data Relation : Type 0 where
   truthValue : Bool → Relation
   tuples : List Row → Relation
 
-unfoldable pub readDomain : Reader ℕ
+unfoldable pub readDomain : Reading ℕ
 readDomain = do
   word 3 (bytes "domain=")
   n ← readNumber 3
@@ -85,7 +85,7 @@ readDomain = do
   give n
 
 -- what follows `input=` or `output=`
-unfoldable pub readPredicate : Reader Predicate
+unfoldable pub readPredicate : Reading Predicate
 readPredicate = do
   p ← readName 3
   word 3 (bytes "/")
@@ -93,10 +93,10 @@ readPredicate = do
   word 3 (bytes "\n")
   give (record { name = p; arity = k })
 
-unfoldable pub readTuples : Reader (List Row)
+unfoldable pub readTuples : Reading (List Row)
 readTuples s = cond (isLF (next s)) (give []) (separated 44 (separated 46 (readNumber 3))) s
 
-unfoldable pub readRelation : Reader Relation
+unfoldable pub readRelation : Reading Relation
 readRelation = do
   word 3 (bytes "rows=")
   r ← oneOf (bytes "true" ⇒ give (truthValue true) ∷ bytes "false" ⇒ give (truthValue false) ∷ []) (do rows ← readTuples; give (tuples rows))
@@ -163,20 +163,20 @@ withInput P q rows = record { domain = P .domain; inputs = P .inputs ++ (record 
 abbrev pub withOutput : Problem → Predicate → Problem
 withOutput P q = record { domain = P .domain; inputs = P .inputs; outputs = P .outputs ++ (q ∷ []) }
 
-unfoldable pub readOutput : Problem → Reader Part
+unfoldable pub readOutput : Problem → Reading Part
 readOutput P = do
   word 3 (bytes "output=")
   q ← readPredicate
   require 4 (predicateFits P q)
   give (closing (withOutput P q))
 
-unfoldable pub readInput : Problem → Reader Part
+unfoldable pub readInput : Problem → Reading Part
 readInput P = do
   q ← readPredicate
   require 4 (predicateFits P q)
   give (awaiting P q)
 
-unfoldable pub problemLine : Part → Reader Part
+unfoldable pub problemLine : Part → Reading Part
 problemLine start = do
   n ← readDomain
   require 4 (domainFits n)

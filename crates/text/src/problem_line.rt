@@ -46,7 +46,7 @@ pub struct DeclaredRead {
 }
 
 // A line: 0 and the place behind it, or the number that it is refused with.
-pub struct LineRead {
+pub struct ProblemLineRead {
     pub number: u32,
     pub next: usize,
     pub progress: Progress,
@@ -111,10 +111,10 @@ fn declared(text: &[u8], at: usize, table: Table) -> DeclaredRead
 }
 
 // A line that is refused, and leaves what is read as it is.
-fn failed(number: u32, at: usize, progress: Progress) -> LineRead
+fn failed(number: u32, at: usize, progress: Progress) -> ProblemLineRead
     ensures { λ r. ⌜ r ≡ failedLine number at progress ⌝ }
 {
-    LineRead {
+    ProblemLineRead {
         number,
         next: at,
         progress,
@@ -122,7 +122,7 @@ fn failed(number: u32, at: usize, progress: Progress) -> LineRead
 }
 
 // The first line: `domain=`.
-fn domain_line(text: &[u8], at: usize, progress: Progress) -> LineRead
+fn domain_line(text: &[u8], at: usize, progress: Progress) -> ProblemLineRead
     requires { ⌜ (at ≤ length (now text)) × (progress .stage ≡ Stage.Start) ⌝ }
     ensures { λ r. ⌜ LineTold (λ rows. problemLine start) (now (text .entry)) at progress r ⌝ }
 {
@@ -136,7 +136,7 @@ fn domain_line(text: &[u8], at: usize, progress: Progress) -> LineRead
             }
             let mut table = progress.table;
             table.domain = value;
-            LineRead {
+            ProblemLineRead {
                 number: 0,
                 next,
                 progress: Progress {
@@ -153,7 +153,7 @@ fn domain_line(text: &[u8], at: usize, progress: Progress) -> LineRead
 }
 
 // What follows `input=`.
-fn input_line(text: &[u8], at: usize, progress: Progress) -> LineRead
+fn input_line(text: &[u8], at: usize, progress: Progress) -> ProblemLineRead
     requires { ⌜ (at ≤ length (now text)) × (length (now text) ≤ 65536) × (progress .stage ≡ Stage.Declaring) ⌝ }
     ensures { λ r. ⌜ LineTold (λ rows. readInput (problemIn (now (text .entry)) (progress .table) rows)) (now (text .entry)) at progress r ⌝ }
 {
@@ -163,7 +163,7 @@ fn input_line(text: &[u8], at: usize, progress: Progress) -> LineRead
         return failed(read.number, at, progress);
     }
     let table = read.table;
-    LineRead {
+    ProblemLineRead {
         number: 0,
         next: read.next,
         progress: Progress {
@@ -176,7 +176,7 @@ fn input_line(text: &[u8], at: usize, progress: Progress) -> LineRead
 }
 
 // A line `output=`.
-fn output_line(text: &[u8], at: usize, progress: Progress) -> LineRead
+fn output_line(text: &[u8], at: usize, progress: Progress) -> ProblemLineRead
     requires { ⌜ (at ≤ length (now text)) × (length (now text) ≤ 65536) × (progress .table .count ≤ 32) ⌝ }
     ensures { λ r. ⌜ LineTold (λ rows. readOutput (problemIn (now (text .entry)) (progress .table) rows)) (now (text .entry)) at progress r ⌝ }
 {
@@ -190,7 +190,7 @@ fn output_line(text: &[u8], at: usize, progress: Progress) -> LineRead
     }
     let mut table = read.table;
     table.count = progress.table.count + 1;
-    LineRead {
+    ProblemLineRead {
         number: 0,
         next: read.next,
         progress: Progress {
@@ -203,7 +203,7 @@ fn output_line(text: &[u8], at: usize, progress: Progress) -> LineRead
 }
 
 // A line where inputs or outputs may follow.
-fn declaring_line(text: &[u8], at: usize, progress: Progress) -> LineRead
+fn declaring_line(text: &[u8], at: usize, progress: Progress) -> ProblemLineRead
     requires { ⌜ (at ≤ length (now text)) × (length (now text) ≤ 65536) × (progress .table .count ≤ 32) × (progress .stage ≡ Stage.Declaring) ⌝ }
     ensures { λ r. ⌜ LineTold (λ rows. problemLine (declaring (problemIn (now (text .entry)) (progress .table) rows))) (now (text .entry)) at progress r ⌝ }
 {
@@ -238,7 +238,7 @@ fn with_input(progress: Progress, arity: u32, count: u32) -> Progress
 }
 
 // A line `rows=`, for the input that awaits its rows.
-fn rows_line(text: &[u8], at: usize, progress: Progress, rows: &mut [u32]) -> LineRead
+fn rows_line(text: &[u8], at: usize, progress: Progress, rows: &mut [u32]) -> ProblemLineRead
     requires { ⌜ (at ≤ length (now text)) × Standing (now text) progress (now rows) × (progress .stage ≡ Stage.Awaiting) × (1056 ≤ length (now rows)) ⌝ }
     ensures { λ r. ⌜ ToldProblemLine (now (text .entry)) at progress (now (rows .entry)) (now (rows .exit)) r ⌝ }
 {
@@ -248,7 +248,7 @@ fn rows_line(text: &[u8], at: usize, progress: Progress, rows: &mut [u32]) -> Li
     let used = progress.used as usize;
     match rows_at(text, at, arity, table.domain, progress.total, rows, used) {
         RowsRead::Refused { number } => failed(number, at, progress),
-        RowsRead::Rows { next, count } => LineRead {
+        RowsRead::Rows { next, count } => ProblemLineRead {
             number: 0,
             next,
             progress: with_input(progress, arity, count),
@@ -257,7 +257,7 @@ fn rows_line(text: &[u8], at: usize, progress: Progress, rows: &mut [u32]) -> Li
 }
 
 // A line, as the part asks that is read so far.
-fn line_at(text: &[u8], at: usize, progress: Progress, rows: &mut [u32]) -> LineRead
+fn problem_line_at(text: &[u8], at: usize, progress: Progress, rows: &mut [u32]) -> ProblemLineRead
     requires { ⌜ (at ≤ length (now text)) × (length (now text) ≤ 65536) × Standing (now text) progress (now rows) × (1056 ≤ length (now rows)) ⌝ }
     ensures { λ r. ⌜ ToldProblemLine (now (text .entry)) at progress (now (rows .entry)) (now (rows .exit)) r ⌝ }
 {
@@ -312,7 +312,7 @@ pub fn read_problem(text: &[u8], rows: &mut [u32]) -> ProblemRead
     let mut at: usize = 0;
     let mut line: u32 = 1;
     while at < text.len() {
-        let read = line_at(text, at, progress, rows);
+        let read = problem_line_at(text, at, progress, rows);
         if read.number != 0 {
             let table = progress.table;
             return ProblemRead {

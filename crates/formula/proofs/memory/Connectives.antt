@@ -13,7 +13,7 @@ use borrow.Author.Tests.{eqb-true, eqb-false}
 use Rattle.text.specs.Bytes.{Bytes, next}
 use Rattle.text.specs.Outcome.{Outcome, done, refused}
 use Rattle.text.specs.Outcome as outcome
-use Rattle.text.specs.Reading.{Reader, word, further}
+use Rattle.text.specs.Reading.{Reading, word, further}
 use Rattle.text.proofs.Laws.{and-left, and-right}
 use Rattle.text.proofs.Separated.{reads-shrinks}
 use Rattle.text.proofs.FoundBytes.{byte-found}
@@ -42,10 +42,10 @@ shrinks-formula levels = reads-shrinks (reads-formula levels)
 
 -- What follows a sign, as a list.
 
-closing : Connective → List Formula → Reader Formula
+closing : Connective → List Formula → Reading Formula
 closing o items u = cond (partsClose o (length items) u) (done (connective o (partsOf items), drop (closeSize o) u)) (refused 5)
 
-module _ (r : Reader Formula) (s : Bytes) where
+module _ (r : Reading Formula) (s : Bytes) where
   negation-list : readNegation r s ≡ (outcome._>>=_ (upTo 0 r s) λ p. closing negation (p .0) (p .1))
   unfolding readNegation upTo further closing
   negation-list = pick (r s)
@@ -162,7 +162,7 @@ module _ (text : Bytes) (at : ℕ) where
 
 -- Connectives.
 
-module _ (s : Setting) (r : Reader Formula) (o : Connective) (at : ℕ) where
+module _ (s : Setting) (r : Reading Formula) (o : Connective) (at : ℕ) where
   pub connective-none : noneFollow o (drop at (s .text)) ≡ true → (names work : List ℕ) (to : ℕ)
       → ToldBehind (readConnective r o) s at (memory names work) to (read.Done (at + 1) 1 (connectiveFacts o (simpleFacts true true)))
       (memory names (set work to (0 * 16 + connectiveTag o)))

@@ -11,7 +11,7 @@ use lib.Seq.{sets, set-comm}
 use Rattle.text.specs.Bytes.{Bytes}
 use Rattle.text.specs.Problem.{Name}
 use Rattle.text.proofs.Laws.{and-left, and-right, Each, each-weaken, sets-append}
-use Rattle.formula.specs.memory.NameTable.{settled, extended, extendedBy, indexIn, namesIn, Listed}
+use Rattle.formula.specs.memory.NameTable.{settled, extended, extendedBy, indexIn, namesIn, NameListed}
 use Rattle.formula.specs.memory.Entries.{Memory, memory, Entered}
 use Rattle.formula.proofs.memory.NameTable.{extended-settles, extendedBy-append, extendedBy-settles, index-extendedBy}
 
@@ -80,7 +80,7 @@ module _ (text : Bytes) where
 
   -- behind a word that has the index of a variable, listed before
   pub entered-index : {x : Name} {variables : List Name} {known : Bool} {words : (Name → ℕ) → List ℕ} {old between work names mid : List ℕ} {to index : ℕ} (tag : ℕ)
-      → Listed text x old between index → Entered text variables known words (memory between work) (to + 1) (memory names mid)
+      → NameListed text x old between index → Entered text variables known words (memory between work) (to + 1) (memory names mid)
       → Entered text (x ∷ variables) known (λ ix. (ix x * 16 + tag) ∷ words ix) (memory old work) to (memory names (set mid to (index * 16 + tag)))
   unfolding extendedBy
   entered-index {x} {variables} {words = words} {old} {between} {work} {names} {mid} {to} {index} tag listed e =

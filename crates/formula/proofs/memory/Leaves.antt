@@ -12,7 +12,7 @@ use borrow.Author.Tests.{eqb-true, eqb-false}
 use Rattle.text.specs.Bytes.{Bytes, bytes, next, begins}
 use Rattle.text.specs.Outcome.{Outcome, done, refused, mapped, provided}
 use Rattle.text.specs.Outcome as outcome
-use Rattle.text.specs.Reading.{Reader, give, word, oneOf, _⇒_, separated}
+use Rattle.text.specs.Reading.{Reading, give, word, oneOf, _⇒_, separated}
 use Rattle.text.specs.Problem.{Name, Problem, predicates, declared, isInput, readName}
 use Rattle.text.proofs.Laws.{and-right}
 use Rattle.text.proofs.Found.{word-found}
@@ -35,7 +35,7 @@ use Rattle.formula.proofs.memory.Lists.{begins-first, begins-other, byt
 use Rattle.formula.proofs.memory.Entries.{entered-alike, entered-header}
 
 -- what one reader reads at a place is what another reads further on
-module _ (s : Setting) (reader other : Reader Formula) (at mid : ℕ) (same : reader (drop at (s .text)) ≡ other (drop mid (s .text))) (h : at ≤ mid) where
+module _ (s : Setting) (reader other : Reading Formula) (at mid : ℕ) (same : reader (drop at (s .text)) ≡ other (drop mid (s .text))) (h : at ≤ mid) where
   pub told-later : (old : Memory) (to : ℕ) (r : Read) (new : Memory) → Told other s mid old to r new → Told reader s at old to r new
   told-later old to (read.Done after extent facts) new f =
       record {
@@ -93,14 +93,14 @@ module _ (s : Setting) (at : ℕ) (h : at ≤ length (s .text)) (names work : Li
 
 -- Equalities: two terms.
 
-exactTwo : List Term → Reader Formula
+exactTwo : List Term → Reading Formula
 exactTwo [] u = refused 5
 exactTwo (a ∷ []) u = refused 5
 exactTwo (a ∷ b ∷ []) u = done (equal a b, u)
 exactTwo (a ∷ b ∷ c ∷ ts) u = refused 5
 
 -- the bracket, and then the number of terms
-finishTwo : List Term → Reader Formula
+finishTwo : List Term → Reading Formula
 finishTwo ts u = outcome._>>=_ (word 5 (41 ∷ []) u) λ z. exactTwo ts (z .1)
 
 finish-one : (a : Term) (u : Bytes) → finishTwo (a ∷ []) u ≡ refused 5

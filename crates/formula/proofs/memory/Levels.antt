@@ -7,7 +7,7 @@ use mathlib.Core.Path.{_≡_, refl, sym, subst, _∙_}
 use lib.ListN.{length, drop}
 use Rattle.text.specs.Bytes.{Bytes}
 use Rattle.text.specs.Outcome.{refused}
-use Rattle.text.specs.Reading.{Reader}
+use Rattle.text.specs.Reading.{Reading}
 use Rattle.logic.specs.Formula.{Formula}
 use Rattle.logic.specs.Reading.{readFormula}
 use Rattle.formula.specs.memory.Entries.{Setting, Memory}
@@ -39,6 +39,6 @@ module _ (s : Setting) (levels : ℕ) (some : levels ≡ 0 → ⊥) (at : ℕ) (
   leaf-read o t =
       told-later s (readFormula levels) readLeaf at at (level levels some (drop at (s .text)) ∙ o (readFormula (levels - 1))) (omega arith) old to r new t
 
-  pub sign-read : (other : Reader Formula → Reader Formula) (behind : ℕ) → Opens (s .text) at other behind
+  pub sign-read : (other : Reading Formula → Reading Formula) (behind : ℕ) → Opens (s .text) at other behind
       → ToldBehind (other (readFormula (levels - 1))) s behind old to r new → Told (readFormula levels) s at old to r new
   sign-read other behind o t = t (readFormula levels) at (level levels some (drop at (s .text)) ∙ o .is (readFormula (levels - 1))) (o .after)

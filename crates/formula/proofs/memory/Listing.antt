@@ -21,7 +21,7 @@ use Rattle.logic.specs.Names.{termKnown, termsKnown, known, allKnown}
 use Rattle.logic.specs.Limits.{termVariables, termsVariables, variables, allVariables}
 use Rattle.formula.proofs.memory.NameTable.{position-within, member-position}
 use Rattle.formula.proofs.memory.Entries.{each-left, each-right}
-use Rattle.formula.proofs.memory.Naming.{Naming, Listed, TermStorable, TermsStorable, Storable, AllStorable}
+use Rattle.formula.proofs.memory.Naming.{Naming, HasIndex, TermStorable, TermsStorable, Storable, AllStorable}
 
 -- a name's place
 module _ (x : Name) where
@@ -40,7 +40,7 @@ module _ (x : Name) where
       pick false e h rest = rest (omega arith)
 
   pub position-listed : (names : List Name) (count : ℕ) → position x names < length names → length names ≤ count
-      → Listed (λ y. position y names) (λ i. getD names i []) count x
+      → HasIndex (λ y. position y names) (λ i. getD names i []) count x
   position-listed names count h l = record { within = omega arith; named = position-named names h }
 
 abbrev pub naming : (variableNames predicateNames : List Name) → length predicateNames < 256 → Naming
@@ -105,7 +105,7 @@ module _ (P : Problem) (valid : Valid P) (variableNames predicateNames : List Na
   terms-storable (term t ts) k h =
       (term-storable t (and-left _ _ k) (each-left _ (termVariables t) _ h), terms-storable ts (and-right (termKnown (P .domain) t) _ k) (each-right _ (termVariables t) _ h))
 
-  predicate-listed : (p : Name) (arity : ℕ) → declared (predicates P) p arity ≡ true → Listed (λ q. position q predicateNames) (λ i. getD predicateNames i []) 32 p
+  predicate-listed : (p : Name) (arity : ℕ) → declared (predicates P) p arity ≡ true → HasIndex (λ q. position q predicateNames) (λ i. getD predicateNames i []) 32 p
   predicate-listed p arity e =
       position-listed p predicateNames 32 (rw are (declared-position (predicates P) p arity e)) (rw (are, length-map (predicates P) (λ q. q .name)) (valid .declares .count))
 

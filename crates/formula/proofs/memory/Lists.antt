@@ -14,7 +14,7 @@ use borrow.Author.Tests.{eq-eqb, ne-eqb, eqb-true, eqb-false}
 use Rattle.text.specs.Bytes.{Bytes, next, begins}
 use Rattle.text.specs.Outcome.{Outcome, done, refused}
 use Rattle.text.specs.Outcome as outcome
-use Rattle.text.specs.Reading.{Reader, word, further, separated}
+use Rattle.text.specs.Reading.{Reading, word, further, separated}
 use Rattle.text.proofs.Outcome.{Allowed}
 use Rattle.text.proofs.FoundBytes.{byte-found, byte-missing}
 use Rattle.text.proofs.Separated.{prepended, listed-separated}
@@ -44,7 +44,7 @@ module _ (text : Bytes) (at b : ℕ) (nonzero : 0 < b) where
   pub byte-refused : (number : ℕ) → (next (drop at text) ≡ b → ⊥) → word number (b ∷ []) (drop at text) ≡ refused number
   byte-refused number h = byte-other b nonzero number (drop at text) h
 
-module _ {A : Type 0} (item : Reader A) (text : Bytes) (i more : ℕ) (items : List A) where
+module _ {A : Type 0} (item : Reading A) (text : Bytes) (i more : ℕ) (items : List A) where
   pub list-refused : (number : ℕ) → item (drop i text) ≡ refused number → prepended items (upTo more item (drop i text)) ≡ refused number
   unfolding upTo
   list-refused number e = rw e
@@ -91,17 +91,17 @@ module _ {A : Type 0} (item : Reader A) (text : Bytes) (i more : ℕ) (items : L
 abbrev pub Shorter : {A : Type 0} → Bytes → A × Bytes → Type 0
 Shorter s p = length (p .1) ≤ length s
 
-abbrev pub Shrinks : {A : Type 0} → Reader A → Type 0
+abbrev pub Shrinks : {A : Type 0} → Reading A → Type 0
 Shrinks item = (s : Bytes) → Allowed (Shorter s) (item s)
 
-pub upTo-separated : {A : Type 0} (item : Reader A) → Shrinks item → (most : ℕ) (s : Bytes) → length s ≤ most → upTo most item s ≡ separated 44 item s
+pub upTo-separated : {A : Type 0} (item : Reading A) → Shrinks item → (most : ℕ) (s : Bytes) → length s ≤ most → upTo most item s ≡ separated 44 item s
 unfolding upTo
 upTo-separated item shrinks most s h = listed-separated 44 (omega arith) item shrinks most s h
 
 -- Two items with a comma between them and a bracket behind them are a list of two.
 
-module _ {A B : Type 0} (item : Reader A) (pair : A → A → B) (finish : List A → Reader B) where
-  abbrev pub readPair : Reader B
+module _ {A B : Type 0} (item : Reading A) (pair : A → A → B) (finish : List A → Reading B) where
+  abbrev pub readPair : Reading B
   readPair s =
       outcome._>>=_ (item s) λ p.
       outcome._>>=_ (word 5 (44 ∷ []) (p .1)) λ q.

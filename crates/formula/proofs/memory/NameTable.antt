@@ -18,7 +18,7 @@ use Rattle.text.specs.memory.Table.{position, indexed}
 use Rattle.text.proofs.Tables.{length-indexed, indexed-append, indexed-agree}
 use Rattle.text.proofs.Laws.{or-left, or-right, same-refl, Each}
 use Rattle.logic.specs.Limits.{namesShort}
-use Rattle.formula.specs.memory.NameTable.{settled, extended, extendedBy, indexIn, nameIn, namesIn, withName, Listed, listFits}
+use Rattle.formula.specs.memory.NameTable.{settled, extended, extendedBy, indexIn, nameIn, namesIn, withName, NameListed, listFits}
 
 -- Places and members of a list.
 
@@ -144,10 +144,10 @@ module _ (text : Bytes) (at size : ℕ) (old : List ℕ) where
     small : i ≤ 65
     small = omega (arith, found, length-namesIn text old, position-within x (namesIn text old))
 
-    listed-same : settled (namesIn text old) x ≡ true → Listed text x old old i
+    listed-same : settled (namesIn text old) x ≡ true → NameListed text x old old i
     listed-same e = record { names = sym (extended-there (namesIn text old) x e); is = found; small = small }
 
-    pub listed-there : i < min (getD old 0 0) 65 → Listed text x old old i
+    pub listed-there : i < min (getD old 0 0) 65 → NameListed text x old old i
     listed-there h =
         listed-same
         (rw (
@@ -155,7 +155,7 @@ module _ (text : Bytes) (at size : ℕ) (old : List ℕ) where
           lt-ltb (position x (namesIn text old)) (length (namesIn text old)) (omega (arith, found, length-namesIn text old)),
         ))
 
-    pub listed-full : 65 ≤ i → Listed text x old old i
+    pub listed-full : 65 ≤ i → NameListed text x old old i
     listed-full h =
         listed-same
         (rw (le-leb 65 (length (namesIn text old)) (omega (arith, found, position-within x (namesIn text old)))) (or-true (member x (namesIn text old))))
@@ -214,7 +214,7 @@ module _ (text : Bytes) (at size : ℕ) (old : List ℕ) where
       unfolding position
       own = rw (same-refl x)
 
-      pub listed-new : Listed text x old new i
+      pub listed-new : NameListed text x old new i
       listed-new =
           record {
             names = names-new ∙ sym (extended-new (namesIn text old) x unsettled);

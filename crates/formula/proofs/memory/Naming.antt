@@ -18,7 +18,7 @@ pub record Naming : Type 0 where
   pub small : (p : Name) → predicateIndex p < 256
 
 -- a name's index is one of so many, and is the index of no other name
-pub record Listed (index : Name → ℕ) (name : ℕ → Name) (count : ℕ) (x : Name) : Type 0 where
+pub record HasIndex (index : Name → ℕ) (name : ℕ → Name) (count : ℕ) (x : Name) : Type 0 where
   pub within : index x < count
   pub named : name (index x) ≡ x
 
@@ -36,10 +36,10 @@ module _ (N : Naming) where
   formulaIn levels s = formulaAt (N .variableName) (N .predicateName) levels s
 
   abbrev pub VariableListed : Name → Type 0
-  VariableListed x = Listed (N .variableIndex) (N .variableName) 64 x
+  VariableListed x = HasIndex (N .variableIndex) (N .variableName) 64 x
 
   abbrev pub PredicateListed : Name → Type 0
-  PredicateListed p = Listed (N .predicateIndex) (N .predicateName) 32 p
+  PredicateListed p = HasIndex (N .predicateIndex) (N .predicateName) 32 p
 
   -- names in the tables, elements of a byte, at most three terms
   abbrev pub TermStorable : Term → Type 0

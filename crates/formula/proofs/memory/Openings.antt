@@ -8,7 +8,7 @@ use mathlib.Core.Bool.{Bool, true, false, cond}
 use lib.ListN.{length, drop}
 use lib.Seq.{drop-drop}
 use Rattle.text.specs.Bytes.{Bytes, bytes, begins}
-use Rattle.text.specs.Reading.{Reader, give, _⇒_, oneOf}
+use Rattle.text.specs.Reading.{Reading, give, _⇒_, oneOf}
 use Rattle.text.proofs.Laws.{Each}
 use Rattle.text.proofs.Reading.{begins-split}
 use Rattle.text.proofs.Found.{word-found}
@@ -20,15 +20,15 @@ use Rattle.formula.specs.memory.Openings.{bracketOpening, openingOf, rea
 use Rattle.formula.specs.declared.opening.Opening.{Opening}
 
 -- by the first word that the text begins with
-module _ {A : Type 0} (last : Reader A) (s : Bytes) where
+module _ {A : Type 0} (last : Reading A) (s : Bytes) where
   -- it begins with none of them
-  oneOf-none : (kinds : List (Bytes × Reader A)) → Each (λ k. begins (k .0) s ≡ false) kinds → oneOf kinds last s ≡ last s
+  oneOf-none : (kinds : List (Bytes × Reading A)) → Each (λ k. begins (k .0) s ≡ false) kinds → oneOf kinds last s ≡ last s
   unfolding oneOf
   oneOf-none [] none = refl
   oneOf-none (k ∷ kinds) none = rw (none .0) (oneOf-none kinds (none .1))
 
   -- nor with one of those that stand behind others
-  oneOf-first : (kinds others : List (Bytes × Reader A)) → oneOf others last s ≡ last s → oneOf (kinds ++ others) last s ≡ oneOf kinds last s
+  oneOf-first : (kinds others : List (Bytes × Reading A)) → oneOf others last s ≡ last s → oneOf (kinds ++ others) last s ≡ oneOf kinds last s
   unfolding oneOf
   oneOf-first [] others e = e
   oneOf-first (k ∷ kinds) others e = pick (begins (k .0) s) (oneOf-first kinds others e)
@@ -39,7 +39,7 @@ module _ {A : Type 0} (last : Reader A) (s : Bytes) where
       pick false e = e
 
 -- formulas with formulas in them
-abbrev signKinds : Reader Formula → List (Bytes × Reader Formula)
+abbrev signKinds : Reading Formula → List (Bytes × Reading Formula)
 signKinds r =
     bytes "~" ⇒ readNegation r
     ∷ bytes "&(" ⇒ readJunction r all
@@ -51,7 +51,7 @@ signKinds r =
     ∷ bytes "?" ⇒ readQuantifier r any
     ∷ []
 
-leaf-kind : (r : Reader Formula) (s : Bytes) → Each (λ k. begins (k .0) s ≡ false) (signKinds r) → readKind r s ≡ readLeaf s
+leaf-kind : (r : Reading Formula) (s : Bytes) → Each (λ k. begins (k .0) s ≡ false) (signKinds r) → readKind r s ≡ readLeaf s
 unfolding formulaKinds readLeaf
 leaf-kind r s none =
     oneOf-first readAtom s (truthText true ⇒ give (truth true) ∷ truthText false ⇒ give (truth false) ∷ bytes "=(" ⇒ readEquality ∷ []) (signKinds r)
@@ -62,8 +62,8 @@ module _ (text : Bytes) (at : ℕ) (h : at ≤ length text) where
   s = drop at text
 
   -- a sign stands there
-  opens : (w : Bytes) (other : Reader Formula → Reader Formula) → 0 < length w → begins w s ≡ true
-      → ((r : Reader Formula) (u : Bytes) → readKind r (w ++ u) ≡ other r u) → Opens text at other (at + length w)
+  opens : (w : Bytes) (other : Reading Formula → Reading Formula) → 0 < length w → begins w s ≡ true
+      → ((r : Reading Formula) (u : Bytes) → readKind r (w ++ u) ≡ other r u) → Opens text at other (at + length w)
   opens w other some e k =
       record {
         is = λ r. ap (readKind r) (begins-split w s e) ∙ k r (drop (length w) s) ∙ ap (other r) (drop-drop (length w) at text);

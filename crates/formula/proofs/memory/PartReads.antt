@@ -12,7 +12,7 @@ use Rattle.text.proofs.Laws.{and-left, and-right}
 use lib.ListN.{length, drop, length-append}
 use Rattle.text.specs.Bytes.{Bytes, next}
 use Rattle.text.specs.Outcome.{done, refused}
-use Rattle.text.specs.Reading.{Reader}
+use Rattle.text.specs.Reading.{Reading}
 use Rattle.text.specs.Problem.{Name, Problem}
 use Rattle.text.proofs.Separated.{prepended, prepended-none}
 use Rattle.text.proofs.FoundBytes.{byte-found}
@@ -110,7 +110,7 @@ module _ (s : Setting) where
       record { counted = refl; measured = refl; judged = sym (facts-none (s .problem) (s .bound)); entered = entered-none (s .text) m to }
 
   parts-more : (items : List Formula) (count extent : ℕ) (facts : Facts) (old mid : Memory) (to : ℕ) → PartsTaken s items count extent facts old to mid
-      → (r : Reader Formula) (i after more : ℕ) (one : Facts) (new : Memory) (f : Found r s i mid (to + extent) after more one new)
+      → (r : Reading Formula) (i after more : ℕ) (one : Facts) (new : Memory) (f : Found r s i mid (to + extent) after more one new)
       → PartsTaken s (items ++ (f .formula ∷ [])) (count + 1) (extent + more) (beside facts one) old to new
   parts-more items count extent facts old mid to taken r i after more one new f =
       record {
@@ -124,7 +124,7 @@ module _ (s : Setting) where
       }
 
 -- some are read by r, and then those from i on, at most so many more
-pub record PartsPassed (r : Reader Formula) (s : Setting) (most at : ℕ) (old : Memory) (to i more count extent : ℕ) (facts : Facts) (new : Memory) : Type 0 where
+pub record PartsPassed (r : Reading Formula) (s : Setting) (most at : ℕ) (old : Memory) (to i more count extent : ℕ) (facts : Facts) (new : Memory) : Type 0 where
   pub items : List Formula
   pub is : upTo most r (drop at (s .text)) ≡ prepended items (upTo more r (drop i (s .text)))
   pub taken : PartsTaken s items count extent facts old to new
@@ -132,7 +132,7 @@ pub record PartsPassed (r : Reader Formula) (s : Setting) (most at : ℕ) (old :
   pub after : at + extent ≤ i
   pub within : i ≤ length (s .text)
 
-module _ (r : Reader Formula) (s : Setting) (most at : ℕ) (old : Memory) (to : ℕ) where
+module _ (r : Reading Formula) (s : Setting) (most at : ℕ) (old : Memory) (to : ℕ) where
   pub parts-first : at ≤ length (s .text) → PartsPassed r s most at old to at most 0 0 (simpleFacts true true) old
   parts-first h =
       record {
@@ -191,7 +191,7 @@ some-more zero u e = absurd (false≢true e)
 some-more (suc more) u e = omega arith
 
 -- by the answer
-module _ (reader : Reader Formula) (s : Setting) (at : ℕ) (old : Memory) (to : ℕ) (new : Memory) (r : Read) (t : Told reader s at old to r new) where
+module _ (reader : Reading Formula) (s : Setting) (at : ℕ) (old : Memory) (to : ℕ) (new : Memory) (r : Read) (t : Told reader s at old to r new) where
   pub formula-done : (after extent : ℕ) (facts : Facts) → r ≡ read.Done after extent facts → Found reader s at old to after extent facts new
   formula-done after extent facts e = subst (λ q. Told reader s at old to q new) e t
 
@@ -201,7 +201,7 @@ module _ (reader : Reader Formula) (s : Setting) (at : ℕ) (old : Memory) (to :
   pub formula-deep : r ≡ read.Deep → reader (drop at (s .text)) ≡ refused 6
   formula-deep e = subst (λ q. Told reader s at old to q new) e t
 
-module _ (reader : Reader (List Formula)) (s : Setting) (at : ℕ) (old : Memory) (to : ℕ) (new : Memory) (r : PartsRead)
+module _ (reader : Reading (List Formula)) (s : Setting) (at : ℕ) (old : Memory) (to : ℕ) (new : Memory) (r : PartsRead)
     (t : ToldParts reader s at old to r new) where
   pub parts-done : (after extent count : ℕ) (facts : Facts) → r ≡ parts.Done after extent count facts
       → PartsFound reader s at old to after extent count facts new

@@ -10,7 +10,7 @@ use lib.Seq.{drop-drop}
 use Rattle.text.specs.Bytes.{Bytes, bytes, next, begins}
 use Rattle.text.specs.Outcome.{Outcome, done, refused}
 use Rattle.text.specs.Outcome as outcome
-use Rattle.text.specs.Reading.{Reader, word}
+use Rattle.text.specs.Reading.{Reading, word}
 use Rattle.text.specs.Problem.{Name}
 use Rattle.text.proofs.Found.{word-found}
 use Rattle.text.proofs.FoundBytes.{byte-found}
@@ -20,7 +20,7 @@ use Rattle.logic.specs.Limits.{variables, quantifiers}
 use Rattle.logic.specs.Reading.{readVariable, readQuantifier}
 use Rattle.formula.specs.memory.Words.{quantifierTag, words}
 use Rattle.formula.specs.memory.Facts.{factsOf, quantifierFacts}
-use Rattle.formula.specs.memory.NameTable.{Listed}
+use Rattle.formula.specs.memory.NameTable.{NameListed}
 use Rattle.formula.specs.memory.Entries.{Setting, setting, Memory, memory}
 use Rattle.formula.specs.memory.TermReads.{NameTaken}
 use Rattle.formula.specs.memory.FormulaReads.{Found, ToldBehind}
@@ -37,7 +37,7 @@ use Rattle.formula.proofs.memory.PartReads.{words-goes}
 
 -- A guard and a body.
 
-module _ (s : Setting) (r : Reader Formula) (at : ℕ) (old : Memory) (to : ℕ) where
+module _ (s : Setting) (r : Reading Formula) (at : ℕ) (old : Memory) (to : ℕ) where
   pub guarded-refused : (number : ℕ) → r (drop at (s .text)) ≡ refused number → readGuarded r (drop at (s .text)) ≡ refused number
   unfolding readGuarded
   guarded-refused number e = rw e
@@ -72,7 +72,7 @@ module _ (s : Setting) (r : Reader Formula) (at : ℕ) (old : Memory) (to : ℕ)
           }
 
 -- by the answer
-module _ (reader : Reader (Formula × Formula)) (s : Setting) (at : ℕ) (old : Memory) (to : ℕ) (new : Memory) (r : GuardedRead)
+module _ (reader : Reading (Formula × Formula)) (s : Setting) (at : ℕ) (old : Memory) (to : ℕ) (new : Memory) (r : GuardedRead)
     (t : ToldGuarded reader s at old to r new) where
   pub guarded-done : (after extent : ℕ) (guard body : Facts) → r ≡ guarded.Done after extent guard body
       → GuardedFound reader s at old to after extent guard body new
@@ -85,7 +85,7 @@ module _ (reader : Reader (Formula × Formula)) (s : Setting) (at : ℕ) (old : 
   guarded-deep e = subst (λ q. ToldGuarded reader s at old to q new) e t
 
 -- quantifiers on a path are no more than the text's bytes
-module _ (reader : Reader (Formula × Formula)) (s : Setting) (at : ℕ) (old : Memory) (to after extent : ℕ) (guard body : Facts) (new : Memory)
+module _ (reader : Reading (Formula × Formula)) (s : Setting) (at : ℕ) (old : Memory) (to after extent : ℕ) (guard body : Facts) (new : Memory)
     (p : GuardedFound reader s at old to after extent guard body new) where
   pub guarded-few : length (s .text) ≤ 65536 → (guard .quantifiers ≤ 65536) × (body .quantifiers ≤ 65536)
   unfolding factsOf
@@ -97,10 +97,10 @@ module _ (reader : Reader (Formula × Formula)) (s : Setting) (at : ℕ) (old : 
 -- What follows a quantifier's sign.
 
 -- behind the variable and the bracket
-within-binding : Reader Formula → Side → Name → Reader Formula
+within-binding : Reading Formula → Side → Name → Reading Formula
 within-binding r c x u = outcome._>>=_ (readGuarded r u) λ q. done (quantifier c x (q .0 .0) (q .0 .1), q .1)
 
-module _ (r : Reader Formula) (c : Side) (x : Name) where
+module _ (r : Reading Formula) (c : Side) (x : Name) where
   binding-is : (u : Bytes)
       → (outcome._>>=_ (r u) λ p. outcome._>>=_ (word 5 (bytes "]:") (p .1)) λ z. outcome._>>=_ (r (z .1)) λ q. done (quantifier c x (p .0) (q .0), q .1))
       ≡ within-binding r c x u
@@ -127,7 +127,7 @@ module _ (r : Reader Formula) (c : Side) (x : Name) where
       guard (done p) = between (p .0) (word 5 (bytes "]:") (p .1))
       guard (refused number) = refl
 
-module _ (s : Setting) (r : Reader Formula) (c : Side) (at : ℕ) where
+module _ (s : Setting) (r : Reading Formula) (c : Side) (at : ℕ) where
   pub quantifier-nameless : readVariable (drop at (s .text)) ≡ refused 5 → readQuantifier r c (drop at (s .text)) ≡ refused 5
   unfolding readQuantifier
   quantifier-nameless e = rw e
@@ -152,7 +152,7 @@ module _ (s : Setting) (r : Reader Formula) (c : Side) (at : ℕ) where
       unfolding within-binding
       quantifier-refused number e = quantifier-is ∙ rw e
 
-      pub quantifier-found : (inner : Name → Bool) → inner ≡ besides x (s .bound) → (old between work : List ℕ) (to index : ℕ) → Listed (s .text) x old between index
+      pub quantifier-found : (inner : Name → Bool) → inner ≡ besides x (s .bound) → (old between work : List ℕ) (to index : ℕ) → NameListed (s .text) x old between index
           → (after extent : ℕ) (guard body : Facts) (names mid : List ℕ)
           → GuardedFound (readGuarded r) (setting (s .text) inner (s .problem) (s .index)) (end + 1) (memory between work) (to + 1) after extent guard body (memory names mid)
           → ToldBehind (readQuantifier r c) s at (memory old work) to (read.Done after (extent + 1) (quantifierFacts c guard body))

@@ -11,7 +11,7 @@ use lib.Seq.{drop-drop}
 use borrow.Author.Tests.{lt-leb, eq-eqb, ne-eqb}
 use Rattle.text.specs.Bytes.{Bytes, bytes, next, same, span, isDigit, isCapital, isSmall, isSmallOrDigit, isLetterOrDigit}
 use Rattle.text.specs.Outcome.{done, refused}
-use Rattle.text.specs.Reading.{Reader, token, readNumber}
+use Rattle.text.specs.Reading.{Reading, token, readNumber}
 use Rattle.text.specs.Problem.{Name, isElement, isName, readName}
 use Rattle.text.specs.memory.Numbers.{SmallFound, LargeFound}
 use Rattle.text.proofs.Laws.{or-left, Each}
@@ -31,10 +31,10 @@ use Rattle.formula.specs.declared.term.TermRead.{TermRead}
 use Rattle.formula.specs.declared.term.TermRead.the-variants as told
 use Rattle.formula.specs.declared.term.TermsRead.{TermsRead}
 use Rattle.formula.specs.declared.term.TermsRead.the-variants as all
-use Rattle.formula.specs.memory.NameTable.{extendedBy, Listed}
+use Rattle.formula.specs.memory.NameTable.{extendedBy, NameListed}
 use Rattle.formula.specs.memory.Entries.{Memory, memory, Entered}
 use Rattle.formula.specs.memory.Lists.{upTo}
-use Rattle.formula.specs.memory.TermReads.{NameTaken, ToldWord, readElement, readVariableTerm, TermFound, ToldTerm, TermsTaken, TermsFound, ToldTerms, closedUpTo, readTermList}
+use Rattle.formula.specs.memory.TermReads.{NameTaken, ToldName, readElement, readVariableTerm, TermFound, ToldTerm, TermsTaken, TermsFound, ToldTerms, closedUpTo, readTermList}
 use Rattle.formula.proofs.memory.Facts.{and-swap}
 use Rattle.formula.proofs.memory.Entries.{GoesBy, each-left, each-right, entered-none, entered-alike, entered-then, entered-index}
 use Rattle.formula.proofs.memory.Lists.{list-refused, list-full, list-last, list-more, byte-read, byte-refused, upTo-separated}
@@ -129,12 +129,12 @@ module _ (text : Bytes) (at : ℕ) where
         let some = some-span isSmallOrDigit isSmall refl (drop at text) first in
         record { is = token-found isSmallOrDigit text at end ends isVariable (spelled false f); after = omega arith; within = within }
 
-module _ (reader : Reader Name) (text : Bytes) (at : ℕ) (r : Behind) (t : ToldWord reader text at r) where
+module _ (reader : Reading Name) (text : Bytes) (at : ℕ) (r : Behind) (t : ToldName reader text at r) where
   pub word-done : (after : ℕ) → r ≡ behind.At after → NameTaken reader text at after
-  word-done after e = subst (ToldWord reader text at) e t
+  word-done after e = subst (ToldName reader text at) e t
 
   pub word-malformed : r ≡ behind.Malformed → reader (drop at text) ≡ refused 5
-  word-malformed e = subst (ToldWord reader text at) e t
+  word-malformed e = subst (ToldName reader text at) e t
 
 -- Terms.
 
@@ -178,7 +178,7 @@ module _ (text : Bytes) (n : ℕ) (bound : Name → Bool) (at : ℕ) (names work
     abbrev y : Name
     y = take (after - at) (drop at text)
 
-    pub variable-entered : (index : ℕ) (more : List ℕ) (named : Bool) → NameTaken readVariable text at after → Listed text y names more index → named ≡ bound y
+    pub variable-entered : (index : ℕ) (more : List ℕ) (named : Bool) → NameTaken readVariable text at after → NameListed text y names more index → named ≡ bound y
         → TermFound text n bound readVariableTerm at (memory names work) to after named (memory more (set work to (index * 16 + 13)))
     unfolding readVariableTerm
     variable-entered index more named f listed e =
@@ -205,13 +205,13 @@ module _ (text : Bytes) (at : ℕ) where
   term-other e = rw e
 
   -- by what one reader reads, where another reads the same
-  pub told-term : (n : ℕ) (bound : Name → Bool) (one other : Reader Term) (old : Memory) (to : ℕ) (r : TermRead) (new : Memory) → one (drop at text) ≡ other (drop at text)
+  pub told-term : (n : ℕ) (bound : Name → Bool) (one other : Reading Term) (old : Memory) (to : ℕ) (r : TermRead) (new : Memory) → one (drop at text) ≡ other (drop at text)
       → ToldTerm text n bound one at old to r new → ToldTerm text n bound other at old to r new
   told-term n bound one other old to (told.Done after named) new e f =
       record { term = f .term; is = sym e ∙ f .is; judged = f .judged; after = f .after; within = f .within; entered = f .entered }
   told-term n bound one other old to told.Malformed new e f = sym e ∙ f
 
-module _ (text : Bytes) (n : ℕ) (bound : Name → Bool) (reader : Reader Term) (at : ℕ) (old : Memory) (to : ℕ) (new : Memory) (r : TermRead)
+module _ (text : Bytes) (n : ℕ) (bound : Name → Bool) (reader : Reading Term) (at : ℕ) (old : Memory) (to : ℕ) (new : Memory) (r : TermRead)
     (t : ToldTerm text n bound reader at old to r new) where
   pub term-done : (after : ℕ) (named : Bool) → r ≡ told.Done after named → TermFound text n bound reader at old to after named new
   term-done after named e = subst (λ q. ToldTerm text n bound reader at old to q new) e t
@@ -335,7 +335,7 @@ module _ (text : Bytes) (n : ℕ) (bound : Name → Bool) (most at : ℕ) (old :
           within = byte-found text after 41 (omega arith) h .within;
         }
 
-module _ (text : Bytes) (n : ℕ) (bound : Name → Bool) (reader : Reader (List Term)) (at : ℕ) (old : Memory) (to : ℕ) (new : Memory) (r : TermsRead)
+module _ (text : Bytes) (n : ℕ) (bound : Name → Bool) (reader : Reading (List Term)) (at : ℕ) (old : Memory) (to : ℕ) (new : Memory) (r : TermsRead)
     (t : ToldTerms text n bound reader at old to r new) where
   pub terms-done : (after count : ℕ) (named : Bool) → r ≡ all.Done after count named → TermsFound text n bound reader at old to after count named new
   terms-done after count named e = subst (λ q. ToldTerms text n bound reader at old to q new) e t

@@ -13,7 +13,7 @@ use Rattle.text.specs.Sizes.{levelCount, variableCount}
 use Rattle.text.specs.Bytes.{Bytes, bytes, next, member}
 use Rattle.text.specs.Outcome.{Outcome, done, refused}
 use Rattle.text.specs.Outcome as outcome
-use Rattle.text.specs.Reading.{Reader, require, _>>=_, _>>_, word}
+use Rattle.text.specs.Reading.{Reading, require, _>>=_, _>>_, word}
 use Rattle.text.specs.Problem.{Name, Problem}
 use Rattle.text.specs.memory.Table.{problemIn}
 use Rattle.text.specs.declared.table.Table.{Table}
@@ -29,7 +29,7 @@ use Rattle.formula.specs.memory.Facts.{factsOf}
 use Rattle.formula.specs.memory.NameTable.{settled, extendedBy, listFits}
 use Rattle.formula.specs.memory.Entries.{predicateIndex, settingOf, Memory, Entered}
 use Rattle.formula.specs.memory.FormulaReads.{Found}
-use Rattle.formula.specs.memory.TheoryLines.{readLine, LineFound}
+use Rattle.formula.specs.memory.TheoryLines.{readTheoryLine, TheoryLineFound}
 use Rattle.formula.specs.declared.binding.Scope.{Scope}
 use Rattle.formula.specs.declared.fact.Facts.{Facts}
 use Rattle.formula.proofs.memory.Bindings.{bound-none}
@@ -46,8 +46,8 @@ module _ (problem : Bytes) (table : Table) (rows : List ℕ) (text : Bytes) (at 
   abbrev P : Problem
   P = problemIn problem table rows
 
-  pub line-refused : (number : ℕ) → readFormula 32 (drop at text) ≡ refused number → readLine P (drop at text) ≡ refused number
-  unfolding readLine levelCount
+  pub line-refused : (number : ℕ) → readFormula 32 (drop at text) ≡ refused number → readTheoryLine P (drop at text) ≡ refused number
+  unfolding readTheoryLine levelCount
   line-refused number e = rw e
 
   module _ (scope : Scope) (empty : scope .count ≡ 0) (old : Memory) (to after extent : ℕ) (facts : Facts) (new : Memory)
@@ -64,22 +64,22 @@ module _ (problem : Bytes) (table : Table) (rows : List ℕ) (text : Bytes) (at 
     unfolding factsOf
     guarded-is = ap (λ (q : Facts). q .guarded) (f .judged)
 
-    pub line-open : (next (drop after text) ≡ 10 → ⊥) → readLine P (drop at text) ≡ refused 5
-    unfolding readLine levelCount
+    pub line-open : (next (drop after text) ≡ 10 → ⊥) → readTheoryLine P (drop at text) ≡ refused 5
+    unfolding readTheoryLine levelCount
     line-open h = rw (f .is, byte-refused text after 10 (omega arith) 5 h)
 
     module _ (h : next (drop after text) ≡ 10) where
-      pub line-unnamed : facts .named ≡ false → readLine P (drop at text) ≡ refused 7
-      unfolding readLine levelCount
+      pub line-unnamed : facts .named ≡ false → readTheoryLine P (drop at text) ≡ refused 7
+      unfolding readTheoryLine levelCount
       line-unnamed e = rw (f .is, byte-read text after 10 (omega arith) 5 h, sym named-is ∙ e)
 
       module _ (named : facts .named ≡ true) where
-        pub line-unnormal : facts .normal ≡ false → readLine P (drop at text) ≡ refused 8
-        unfolding readLine levelCount
+        pub line-unnormal : facts .normal ≡ false → readTheoryLine P (drop at text) ≡ refused 8
+        unfolding readTheoryLine levelCount
         line-unnormal e = rw (f .is, byte-read text after 10 (omega arith) 5 h, sym named-is ∙ named, sym normal-is ∙ e)
 
-        pub line-found : facts .normal ≡ true → LineFound P text (predicateIndex problem table) at old to (after + 1) extent (facts .guarded) new
-        unfolding readLine levelCount
+        pub line-found : facts .normal ≡ true → TheoryLineFound P text (predicateIndex problem table) at old to (after + 1) extent (facts .guarded) new
+        unfolding readTheoryLine levelCount
         line-found e =
             record {
               formula = f .formula;
@@ -93,10 +93,10 @@ module _ (problem : Bytes) (table : Table) (rows : List ℕ) (text : Bytes) (at 
             }
 
 -- what is done with the formula of a line
-pub line-then : {A : Type 0} (P : Problem) (k : Formula → Reader A) (s : Bytes)
+pub line-then : {A : Type 0} (P : Problem) (k : Formula → Reading A) (s : Bytes)
     → (readFormula levelCount >>= λ f. word 5 (bytes "\n") >> (require 7 (namesFit P f) >> (require 8 (isGNF P f) >> k f))) s
-    ≡ (outcome._>>=_ (readLine P s) λ p. k (p .0) (p .1))
-unfolding readLine
+    ≡ (outcome._>>=_ (readTheoryLine P s) λ p. k (p .0) (p .1))
+unfolding readTheoryLine
 line-then {A} P k s = read (readFormula levelCount s)
   where
     judged : (f : Formula) (u : Bytes) (a b : Bool)

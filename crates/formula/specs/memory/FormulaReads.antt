@@ -6,7 +6,7 @@ use mathlib.Core.Bool.{true, false}
 use lib.ListN.{length, drop}
 use Rattle.text.specs.Bytes.{bytes}
 use Rattle.text.specs.Outcome.{done, refused}
-use Rattle.text.specs.Reading.{Reader, give, _⇒_, oneOf}
+use Rattle.text.specs.Reading.{Reading, give, _⇒_, oneOf}
 use Rattle.logic.specs.Formula.{Formula, truth, size}
 use Rattle.logic.specs.Text.{truthText}
 use Rattle.logic.specs.Reading.{readEquality, readAtom}
@@ -20,7 +20,7 @@ use Rattle.formula.specs.declared.read.Read.{Read}
 use Rattle.formula.specs.declared.read.Read.the-variants as read
 
 -- a formula is read, measured, judged and entered
-pub record Found (reader : Reader Formula) (s : Setting) (at : ℕ) (old : Memory) (to next extent : ℕ) (facts : Facts) (new : Memory) : Type 0 where
+pub record Found (reader : Reading Formula) (s : Setting) (at : ℕ) (old : Memory) (to next extent : ℕ) (facts : Facts) (new : Memory) : Type 0 where
   pub formula : Formula
   pub is : reader (drop at (s .text)) ≡ done (formula, drop next (s .text))
   pub measured : extent ≡ size formula
@@ -29,17 +29,17 @@ pub record Found (reader : Reader Formula) (s : Setting) (at : ℕ) (old : Memor
   pub within : next ≤ length (s .text)
   pub entered : Entered (s .text) (variables formula) (known (s .problem) formula) (λ ix. words ix (s .index) formula) old to new
 
-abbrev pub Told : Reader Formula → Setting → ℕ → Memory → ℕ → Read → Memory → Type 0
+abbrev pub Told : Reading Formula → Setting → ℕ → Memory → ℕ → Read → Memory → Type 0
 Told reader s at old to (read.Done next extent facts) new = Found reader s at old to next extent facts new
 Told reader s at old to read.Malformed new = reader (drop at (s .text)) ≡ refused 5
 Told reader s at old to read.Deep new = reader (drop at (s .text)) ≡ refused 6
 
 -- what is read behind a sign, told of every reader that reads the sign too
-abbrev pub ToldBehind : Reader Formula → Setting → ℕ → Memory → ℕ → Read → Memory → Type 0
+abbrev pub ToldBehind : Reading Formula → Setting → ℕ → Memory → ℕ → Read → Memory → Type 0
 ToldBehind other s at old to r new =
-    (reader : Reader Formula) (sign : ℕ) → reader (drop sign (s .text)) ≡ other (drop at (s .text)) → sign < at → Told reader s sign old to r new
+    (reader : Reading Formula) (sign : ℕ) → reader (drop sign (s .text)) ≡ other (drop at (s .text)) → sign < at → Told reader s sign old to r new
 
 -- a formula with no formula in it
-unfoldable pub readLeaf : Reader Formula
+unfoldable pub readLeaf : Reading Formula
 readLeaf =
     oneOf (truthText true ⇒ give (truth true) ∷ truthText false ⇒ give (truth false) ∷ bytes "=(" ⇒ readEquality ∷ []) readAtom

@@ -40,7 +40,7 @@ abbrev pub withName : List ℕ → ℕ → ℕ → ℕ → List ℕ
 withName memory i at size = set (set (set memory (2 * i + 1) at) (2 * i + 1 + 1) size) 0 (i + 1)
 
 -- a name is in the table, if there is room, and its index is told
-pub record Listed (text : Bytes) (x : Name) (old new : List ℕ) (index : ℕ) : Type 0 where
+pub record NameListed (text : Bytes) (x : Name) (old new : List ℕ) (index : ℕ) : Type 0 where
   pub names : namesIn text new ≡ extended (namesIn text old) x
   pub is : index ≡ indexIn (namesIn text new) x
   pub small : index ≤ 65

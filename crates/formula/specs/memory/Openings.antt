@@ -4,7 +4,7 @@ use mathlib.Core.Path.{_≡_}
 use mathlib.Core.Bool.{true, false, cond}
 use lib.ListN.{length, drop}
 use Rattle.text.specs.Bytes.{Bytes, bytes, next, begins}
-use Rattle.text.specs.Reading.{Reader, oneOf}
+use Rattle.text.specs.Reading.{Reading, oneOf}
 use Rattle.logic.specs.Formula.{Connective, negation, implies, impliedBy, equivalent, junction, Formula}
 use Rattle.logic.specs.Reading.{readAtom, readNegation, readTwo, readJunction, readQuantifier, formulaKinds}
 use Rattle.formula.specs.memory.Stored.{sideOf, connectiveOf}
@@ -28,7 +28,7 @@ openingOf at s =
     (cond (begins (bytes "?") s) (opening.Quantifier false (at + 1)) (bracketOpening at s)))
 
 -- what follows a connective's sign, where each part is read by r
-abbrev pub readConnective : Reader Formula → Connective → Reader Formula
+abbrev pub readConnective : Reading Formula → Connective → Reading Formula
 readConnective r negation = readNegation r
 readConnective r implies = readTwo r implies
 readConnective r impliedBy = readTwo r impliedBy
@@ -36,16 +36,16 @@ readConnective r equivalent = readTwo r equivalent
 readConnective r (junction c) = readJunction r c
 
 -- a formula whose parts are read by r
-abbrev pub readKind : Reader Formula → Reader Formula
+abbrev pub readKind : Reading Formula → Reading Formula
 readKind r = oneOf (formulaKinds r) readAtom
 
 -- what stands at a place is read by another reader, further on
-pub record Opens (text : Bytes) (at : ℕ) (other : Reader Formula → Reader Formula) (next : ℕ) : Type 0 where
-  pub is : (r : Reader Formula) → readKind r (drop at text) ≡ other r (drop next text)
+pub record Opens (text : Bytes) (at : ℕ) (other : Reading Formula → Reading Formula) (next : ℕ) : Type 0 where
+  pub is : (r : Reading Formula) → readKind r (drop at text) ≡ other r (drop next text)
   pub after : at < next
   pub within : next ≤ length text
 
 abbrev pub ToldOpening : Bytes → ℕ → Opening → Type 0
-ToldOpening text at opening.Leaf = (r : Reader Formula) → readKind r (drop at text) ≡ readLeaf (drop at text)
+ToldOpening text at opening.Leaf = (r : Reading Formula) → readKind r (drop at text) ≡ readLeaf (drop at text)
 ToldOpening text at (opening.Connective sign next) = Opens text at (λ r. readConnective r (connectiveOf sign)) next
 ToldOpening text at (opening.Quantifier every next) = Opens text at (λ r. readQuantifier r (sideOf every)) next

@@ -7,7 +7,7 @@ use lib.Dec.{eqb}
 use lib.ListN.{length, drop}
 use Rattle.text.specs.Bytes.{Bytes, bytes, next}
 use Rattle.text.specs.Outcome.{done, refused}
-use Rattle.text.specs.Reading.{Reader, give, _>>=_, _>>_, word}
+use Rattle.text.specs.Reading.{Reading, give, _>>=_, _>>_, word}
 use Rattle.logic.specs.Formula.{Connective, negation, implies, impliedBy, equivalent, junction, Formula, partsOf, size, sizes}
 use Rattle.logic.specs.Names.{known, allKnown}
 use Rattle.logic.specs.Limits.{variables, allVariables}
@@ -59,7 +59,7 @@ closeSize equivalent = 1
 closeSize (junction c) = 1
 
 -- a guard and a body
-unfoldable pub readGuarded : Reader Formula → Reader (Formula × Formula)
+unfoldable pub readGuarded : Reading Formula → Reading (Formula × Formula)
 readGuarded r = do
   g ← r
   word 5 (bytes "]:")
@@ -75,20 +75,20 @@ pub record PartsTaken (s : Setting) (items : List Formula) (count extent : ℕ) 
       Entered (s .text) (allVariables (partsOf items)) (allKnown (s .problem) (partsOf items)) (λ ix. allWords ix (s .index) (partsOf items)) old to new
 
 -- parts are read
-pub record PartsFound (reader : Reader (List Formula)) (s : Setting) (at : ℕ) (old : Memory) (to next extent count : ℕ) (facts : Facts) (new : Memory) : Type 0 where
+pub record PartsFound (reader : Reading (List Formula)) (s : Setting) (at : ℕ) (old : Memory) (to next extent count : ℕ) (facts : Facts) (new : Memory) : Type 0 where
   pub items : List Formula
   pub is : reader (drop at (s .text)) ≡ done (items, drop next (s .text))
   pub taken : PartsTaken s items count extent facts old to new
   pub after : at + extent ≤ next
   pub within : next ≤ length (s .text)
 
-abbrev pub ToldParts : Reader (List Formula) → Setting → ℕ → Memory → ℕ → PartsRead → Memory → Type 0
+abbrev pub ToldParts : Reading (List Formula) → Setting → ℕ → Memory → ℕ → PartsRead → Memory → Type 0
 ToldParts reader s at old to (parts.Done next extent count facts) new = PartsFound reader s at old to next extent count facts new
 ToldParts reader s at old to parts.Malformed new = reader (drop at (s .text)) ≡ refused 5
 ToldParts reader s at old to parts.Deep new = reader (drop at (s .text)) ≡ refused 6
 
 -- a guard and a body are read, measured together, judged each and entered
-pub record GuardedFound (reader : Reader (Formula × Formula)) (s : Setting) (at : ℕ) (old : Memory) (to next extent : ℕ) (guard body : Facts) (new : Memory) : Type 0 where
+pub record GuardedFound (reader : Reading (Formula × Formula)) (s : Setting) (at : ℕ) (old : Memory) (to next extent : ℕ) (guard body : Facts) (new : Memory) : Type 0 where
   pub first : Formula
   pub second : Formula
   pub is : reader (drop at (s .text)) ≡ done ((first, second), drop next (s .text))
@@ -101,7 +101,7 @@ pub record GuardedFound (reader : Reader (Formula × Formula)) (s : Setting) (at
       Entered (s .text) (variables first ++ variables second) (known (s .problem) first && known (s .problem) second)
       (λ ix. words ix (s .index) first ++ words ix (s .index) second) old to new
 
-abbrev pub ToldGuarded : Reader (Formula × Formula) → Setting → ℕ → Memory → ℕ → GuardedRead → Memory → Type 0
+abbrev pub ToldGuarded : Reading (Formula × Formula) → Setting → ℕ → Memory → ℕ → GuardedRead → Memory → Type 0
 ToldGuarded reader s at old to (guarded.Done next extent guard body) new = GuardedFound reader s at old to next extent guard body new
 ToldGuarded reader s at old to guarded.Malformed new = reader (drop at (s .text)) ≡ refused 5
 ToldGuarded reader s at old to guarded.Deep new = reader (drop at (s .text)) ≡ refused 6

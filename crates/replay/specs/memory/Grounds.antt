@@ -59,7 +59,7 @@ pub record Refuses (number file line : ℕ) (r : Grounded) : Type 0 where
   pub lined : r .line ≡ line
 
 -- the live formulas of a theory that was read: its words at the front, and the names 1, 2, 3 and so on
-pub record Named (layout : Layout) (count full : ℕ) (old : List ℕ) (live : Live) (work : List ℕ) : Type 0 where
+pub record FirstNamed (layout : Layout) (count full : ℕ) (old : List ℕ) (live : Live) (work : List ℕ) : Type 0 where
   pub holds : heldIn layout live work ≡ held (take full old) (countFrom 1 count) count false
   pub few : Few live
   pub rows : rowsIn layout work ≡ rowsIn layout old

@@ -5,7 +5,7 @@ use mathlib.Core.List.{List}
 use lib.ListN.{length, drop}
 use Rattle.text.specs.Bytes.{Bytes}
 use Rattle.text.specs.Outcome.{done, refused}
-use Rattle.text.specs.Reading.{Reader}
+use Rattle.text.specs.Reading.{Reading}
 use Rattle.text.specs.Lines.{Judged, refusal}
 use Rattle.text.specs.memory.Numbers.{numbersAt}
 use Rattle.text.specs.declared.table.Table.{Table}
@@ -28,7 +28,7 @@ abbrev pub JudgedIn : Type 0
 JudgedIn = Judged (Replayed Held)
 
 module _ (table : Table) (rows : List ℕ) (first : Held) where
-  abbrev pub lineIn : Place Held → Reader (Place Held)
+  abbrev pub lineIn : Place Held → Reading (Place Held)
   lineIn = derivationLine (steppedIn table rows) first
 
   abbrev pub GoingIn : JudgedIn → Bytes → ℕ → ℕ → Place Held → Type 0
@@ -41,10 +41,10 @@ module _ (table : Table) (rows : List ℕ) (first : Held) where
     pub within : next ≤ length text
 
   -- a rule line is done, the footer is read, or the line is refused under its number
-  abbrev pub ToldLine : Layout → List ℕ → Held → Bytes → ℕ → ℕ → Moved → List ℕ → Type 0
-  ToldLine layout old m text at line (moved.On live next) work = Leads m text at next (λ rules. among (heldIn layout live work) (suc rules)) × (Few live × (rowsIn layout work ≡ rows))
-  ToldLine layout old m text at line (moved.Footer names many next) work = Leads m text at next (λ rules. bottom m rules (numbersAt text names many)) × ((names + many ≤ next) × (work ≡ old))
-  ToldLine layout old m text at line (moved.Refused number told) work = ((rules : ℕ) → lineIn (among m rules) (drop at text) ≡ refused number) × (told ≡ line)
+  abbrev pub ToldMoved : Layout → List ℕ → Held → Bytes → ℕ → ℕ → Moved → List ℕ → Type 0
+  ToldMoved layout old m text at line (moved.On live next) work = Leads m text at next (λ rules. among (heldIn layout live work) (suc rules)) × (Few live × (rowsIn layout work ≡ rows))
+  ToldMoved layout old m text at line (moved.Footer names many next) work = Leads m text at next (λ rules. bottom m rules (numbersAt text names many)) × ((names + many ≤ next) × (work ≡ old))
+  ToldMoved layout old m text at line (moved.Refused number told) work = ((rules : ℕ) → lineIn (among m rules) (drop at text) ≡ refused number) × (told ≡ line)
 
 -- what a derivation comes to is in memory
 pub record Finished (outcome : JudgedIn) (layout : Layout) (rows : List ℕ) (text : Bytes) (live : Live) (rules names many : ℕ) (work : List ℕ) : Type 0 where

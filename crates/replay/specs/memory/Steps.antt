@@ -52,13 +52,13 @@ ToldTarget outcome live (target.At index at) = (outcome ≡ done (index, at)) ×
 ToldTarget outcome live (target.Refused number) = outcome ≡ refused number
 
 -- the live formulas after a line are in memory, and the rows are as they were
-pub record Moved (outcome : Outcome ℕ Held) (layout : Layout) (old : List ℕ) (live : Live) (work : List ℕ) : Type 0 where
+pub record Stepped (outcome : Outcome ℕ Held) (layout : Layout) (old : List ℕ) (live : Live) (work : List ℕ) : Type 0 where
   pub is : outcome ≡ done (heldIn layout live work)
   pub few : Few live
   pub rows : rowsIn layout work ≡ rowsIn layout old
 
 abbrev pub ToldStep : Outcome ℕ Held → Layout → List ℕ → Step → List ℕ → Type 0
-ToldStep outcome layout old (step.Done live) work = Moved outcome layout old live work
+ToldStep outcome layout old (step.Done live) work = Stepped outcome layout old live work
 ToldStep outcome layout old (step.Refused number) work = outcome ≡ refused number
 
 -- the flags are those of the guard, if a quantifier is instantiated

@@ -2,7 +2,7 @@
 use Prim.Native.Nat.{ℕ, _+_, _≤_, _<_}
 use lib.ListN.{take, drop}
 use Rattle.text.specs.Bytes.{Bytes, bytes}
-use Rattle.text.specs.Reading.{Reader, give, _>>=_, _>>_, word, readNumber}
+use Rattle.text.specs.Reading.{Reading, give, _>>=_, _>>_, word, readNumber}
 use Rattle.text.specs.Problem.{Predicate, readPredicate}
 use Rattle.text.specs.memory.Found.{Found, Taken, Refused}
 use Rattle.text.specs.memory.Numbers.{beyond}
@@ -12,19 +12,19 @@ use Rattle.text.specs.declared.declaration.Declaration.{Declaration}
 use Rattle.text.specs.declared.declaration.Declaration.the-variants as declaration
 
 -- a number that ends its line
-unfoldable pub readLastNumber : Reader ℕ
+unfoldable pub readLastNumber : Reading ℕ
 readLastNumber = do
   n ← readNumber 3
   word 3 (bytes "\n")
   give n
 
 -- a number too large to be told is read
-pub record LargeRead (reader : Reader ℕ) (text : Bytes) (at next : ℕ) : Type 0 where
+pub record LargeRead (reader : Reading ℕ) (text : Bytes) (at next : ℕ) : Type 0 where
   pub number : ℕ
   pub found : Found reader text at number next
   pub large : beyond ≤ number
 
-abbrev pub ToldLast : Reader ℕ → Bytes → ℕ → Number → Type 0
+abbrev pub ToldLast : Reading ℕ → Bytes → ℕ → Number → Type 0
 ToldLast reader text at (Value next number) = Taken reader text at number next
 ToldLast reader text at (Beyond next) = LargeRead reader text at next
 ToldLast reader text at Malformed = Refused 3 reader text at

@@ -5,20 +5,20 @@ use mathlib.Core.Bool.{true}
 use lib.ListN.{length, drop}
 use Rattle.text.specs.Bytes.{Bytes, begins}
 use Rattle.text.specs.Outcome.{done, refused}
-use Rattle.text.specs.Reading.{Reader}
+use Rattle.text.specs.Reading.{Reading}
 
-pub record Found {A : Type 0} (reader : Reader A) (text : Bytes) (at : ℕ) (a : A) (next : ℕ) : Type 0 where
+pub record Found {A : Type 0} (reader : Reading A) (text : Bytes) (at : ℕ) (a : A) (next : ℕ) : Type 0 where
   pub is : reader (drop at text) ≡ done (a, drop next text)
   pub after : at ≤ next
   pub within : next ≤ length text
 
 -- and it takes a byte at least
-pub record Taken {A : Type 0} (reader : Reader A) (text : Bytes) (at : ℕ) (a : A) (next : ℕ) : Type 0 where
+pub record Taken {A : Type 0} (reader : Reading A) (text : Bytes) (at : ℕ) (a : A) (next : ℕ) : Type 0 where
   pub is : reader (drop at text) ≡ done (a, drop next text)
   pub after : at < next
   pub within : next ≤ length text
 
-pub record Refused {A : Type 0} (number : ℕ) (reader : Reader A) (text : Bytes) (at : ℕ) : Type 0 where
+pub record Refused {A : Type 0} (number : ℕ) (reader : Reading A) (text : Bytes) (at : ℕ) : Type 0 where
   pub is : reader (drop at text) ≡ refused number
 
 -- a word stands at a place

@@ -4,11 +4,11 @@ use mathlib.Core.Path.{_≡_}
 use lib.ListN.{length, drop}
 use Rattle.text.specs.Bytes.{Bytes}
 use Rattle.text.specs.Outcome.{Outcome}
-use Rattle.text.specs.Reading.{Reader}
+use Rattle.text.specs.Reading.{Reading}
 use Rattle.text.specs.Lines.{Judged, readLines}
 
 -- what a whole text comes to is what its rest comes to, from a place, a line and a state on
-pub record Going {S A : Type 0} (file : ℕ) (line : S → Reader S) (finish : S → Outcome ℕ A) (whole : Judged A) (text : Bytes) (at number : ℕ) (state : S) : Type 0 where
+pub record Going {S A : Type 0} (file : ℕ) (line : S → Reading S) (finish : S → Outcome ℕ A) (whole : Judged A) (text : Bytes) (at number : ℕ) (state : S) : Type 0 where
   pub most : ℕ
   pub is : whole ≡ readLines file line finish most number state (drop at text)
   pub enough : length text ≤ most + at

@@ -7,7 +7,7 @@ use lib.Dec.{eqb, leb, ltb}
 use lib.ListN.{length, getD}
 use Rattle.text.specs.Sizes.{greatestArity, nameSize, predicateCount}
 use Rattle.text.specs.Bytes.{Bytes}
-use Rattle.text.specs.Reading.{Reader, give, _>>=_, _>>_, require}
+use Rattle.text.specs.Reading.{Reading, give, _>>=_, _>>_, require}
 use Rattle.text.specs.Problem.{Predicate, Problem, predicates, tupleTotal, readPredicate, predicateFits}
 use Rattle.text.specs.Problem.{Part, start, declaring, awaiting, closing, problemLine, problemOf}
 use Rattle.text.specs.memory.Found.{Taken, Refused}
@@ -17,7 +17,7 @@ use Rattle.text.specs.declared.problem_line.Stage.{Stage}
 use Rattle.text.specs.declared.problem_line.Stage.the-variants.{Start, Declaring, Awaiting, Closing}
 use Rattle.text.specs.declared.problem_line.Progress.{Progress}
 use Rattle.text.specs.declared.problem_line.DeclaredRead.{DeclaredRead}
-use Rattle.text.specs.declared.problem_line.LineRead.{LineRead}
+use Rattle.text.specs.declared.problem_line.ProblemLineRead.{ProblemLineRead}
 use Rattle.text.specs.declared.problem_line.ProblemRead.{ProblemRead}
 
 -- A predicate that is declared, judged and entered.
@@ -29,7 +29,7 @@ predicateFitsIn text table q =
     && (leb (length (q .name)) nameSize && (eqb (position (q .name) (tableNames text table)) (table .count) && ltb (table .count) predicateCount))
 
 -- a predicate that may join a problem's
-abbrev pub readDeclared : Problem → Reader Predicate
+abbrev pub readDeclared : Problem → Reading Predicate
 readDeclared P = do
   q ← readPredicate
   require 4 (predicateFits P q)
@@ -84,24 +84,24 @@ pub record Standing (text : Bytes) (p : Progress) (rows : List ℕ) : Type 0 whe
   pub stored : (i : ℕ) → i < p .table .inputs → getD (p .table .first) i 0 + getD (p .table .rows) i 0 ≤ p .used
 
 -- a part is read
-pub record PartFound (reader : Reader Part) (text : Bytes) (at : ℕ) (rows : List ℕ) (next : ℕ) (p : Progress) : Type 0 where
+pub record PartFound (reader : Reading Part) (text : Bytes) (at : ℕ) (rows : List ℕ) (next : ℕ) (p : Progress) : Type 0 where
   pub found : Taken reader text at (partIn text p rows) next
   pub standing : Standing text p rows
 
-abbrev pub ToldPart : Reader Part → Bytes → ℕ → List ℕ → ℕ → ℕ → Progress → Type 0
+abbrev pub ToldPart : Reading Part → Bytes → ℕ → List ℕ → ℕ → ℕ → Progress → Type 0
 ToldPart reader text at rows zero next p = PartFound reader text at rows next p
 ToldPart reader text at rows (suc number) next p = Refused (suc number) reader text at
 
 -- a line is read where the reading stands
-abbrev pub ToldProblemLine : Bytes → ℕ → Progress → List ℕ → List ℕ → LineRead → Type 0
+abbrev pub ToldProblemLine : Bytes → ℕ → Progress → List ℕ → List ℕ → ProblemLineRead → Type 0
 ToldProblemLine text at p old new r = ToldPart (problemLine (partIn text p old)) text at new (r .number) (r .next) (r .progress)
 
 -- a line that is refused
-abbrev pub failedLine : ℕ → ℕ → Progress → LineRead
+abbrev pub failedLine : ℕ → ℕ → Progress → ProblemLineRead
 failedLine number at p = record { number = number; next = at; progress = p }
 
 -- a line that leaves the rows as they are, whatever they are
-pub record LineTold (reader : List ℕ → Reader Part) (text : Bytes) (at : ℕ) (before : Progress) (r : LineRead) : Type 0 where
+pub record LineTold (reader : List ℕ → Reading Part) (text : Bytes) (at : ℕ) (before : Progress) (r : ProblemLineRead) : Type 0 where
   pub told : (rows : List ℕ) → Standing text before rows → ToldPart (reader rows) text at rows (r .number) (r .next) (r .progress)
 
 -- the awaited input with its rows, from the next place on

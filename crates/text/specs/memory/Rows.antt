@@ -8,7 +8,7 @@ use lib.ListN.{length}
 use lib.Seq.{sets}
 use Rattle.text.specs.Sizes.{tupleCount}
 use Rattle.text.specs.Bytes.{Bytes, bytes, every}
-use Rattle.text.specs.Reading.{Reader, give, _>>=_, _>>_, judge, word, readNumber, separated}
+use Rattle.text.specs.Reading.{Reading, give, _>>=_, _>>_, judge, word, readNumber, separated}
 use Rattle.text.specs.Problem.{Row, Problem, isElement, rowFits, rowsFit, ascending, tupleTotal, Relation, truthValue, tuples, readTuples, readRelation, rowsFor}
 use Rattle.text.specs.memory.Found.{Found, Taken, Refused}
 use Rattle.text.specs.memory.Table.{packed, ranked}
@@ -60,7 +60,7 @@ ToldElement n before text at (tuple.Row next after) = ElementFound n before text
 ToldElement n before text at tuple.Malformed = Refused 3 (readNumber 3) text at
 
 -- a tuple is read
-abbrev pub readTuple : Reader Row
+abbrev pub readTuple : Reading Row
 readTuple = separated 46 (readNumber 3)
 
 pub record TupleFound (n : ℕ) (text : Bytes) (at : ℕ) (kept : RowKept) (next : ℕ) : Type 0 where
@@ -109,7 +109,7 @@ pub record RowsMore (total arity to : ℕ) (one : RowKept) (before after : RowsK
       → ToldRows n total arity to old lent ts before → ToldRows n total arity to old left (ts ++ (t ∷ [])) after
 
 -- tuples are read, one at least
-abbrev pub readSome : Reader (List Row)
+abbrev pub readSome : Reading (List Row)
 readSome = separated 44 readTuple
 
 pub record TuplesFound (n total arity to : ℕ) (old new : List ℕ) (text : Bytes) (at : ℕ) (kept : RowsKept) (next : ℕ) : Type 0 where
@@ -124,7 +124,7 @@ ToldTuples n total arity to old new text at list.Malformed = Refused 3 readSome 
 -- A whole `rows=` line.
 
 -- a relation, and the LF behind it
-abbrev pub readClosed : Relation → Reader Relation
+abbrev pub readClosed : Relation → Reading Relation
 readClosed r = word 3 (bytes "\n") >> give r
 
 abbrev pub ToldTruth : Bool → Bytes → ℕ → RelationRead → Type 0
@@ -133,10 +133,10 @@ ToldTruth value text at (relation.Listed next kept) = ⊥
 ToldTruth value text at relation.Malformed = Refused 3 (readClosed (truthValue value)) text at
 
 -- tuples, and the LF behind them
-abbrev pub readListed : Reader Relation
+abbrev pub readListed : Reading Relation
 readListed = (readTuples >>= λ ts. give (tuples ts)) >>= readClosed
 
-pub record ListedFound (reader : Reader Relation) (n total arity to : ℕ) (old new : List ℕ) (text : Bytes) (at : ℕ) (kept : RowsKept) (next : ℕ) : Type 0 where
+pub record ListedFound (reader : Reading Relation) (n total arity to : ℕ) (old new : List ℕ) (text : Bytes) (at : ℕ) (kept : RowsKept) (next : ℕ) : Type 0 where
   pub list : List Row
   pub found : Taken reader text at (tuples list) next
   pub told : ToldRows n total arity to old new list kept
@@ -158,7 +158,7 @@ ToldRelation n total arity to old new text at relation.Malformed = Refused 3 rea
 -- The rows that it gives a predicate.
 
 -- what is judged of a predicate's rows, with a problem's domain and tuples
-abbrev pub readRows : Problem → ℕ → Reader (List Row)
+abbrev pub readRows : Problem → ℕ → Reading (List Row)
 readRows P arity = do
   r ← readRelation
   judge (rowsFor P arity r)

@@ -6,7 +6,7 @@ use mathlib.Core.Bool.{false}
 use lib.ListN.{length, drop}
 use Rattle.text.specs.Bytes.{Bytes, bytes, begins}
 use Rattle.text.specs.Outcome.{Outcome, refused}
-use Rattle.text.specs.Reading.{Reader, give, _⇒_, oneOf, separated}
+use Rattle.text.specs.Reading.{Reading, give, _⇒_, oneOf, separated}
 use Rattle.text.specs.Derivation.{Position, Rule, SNAND, SNOR, STN, EPRED, EPROP, IQ, RuleLine, rewrite, unsat, trivial, splitc, Line, step, footer}
 use Rattle.text.specs.Derivation.{readRanged, readFormulaName, readPosition, atPosition, readSplit, readFooter, readLine}
 use Rattle.text.specs.memory.Found.{Found, Taken, Refused, WordFound}
@@ -47,7 +47,7 @@ abbrev pub positionAt : Bytes → ℕ → ℕ → ℕ → Position
 positionAt text name path steps = record { name = name; path = numbersAt text path steps }
 
 -- the footer's names
-abbrev pub readFinalNames : Reader (List ℕ)
+abbrev pub readFinalNames : Reading (List ℕ)
 readFinalNames = oneOf (bytes "-" ⇒ give [] ∷ []) (separated 44 readFormulaName)
 
 -- a word stands there, or it does not
@@ -56,11 +56,11 @@ ToldWord w text at (ended.At next) = WordFound w text at next
 ToldWord w text at ended.Malformed = begins w (drop at text) ≡ false
 
 -- something is read
-pub record EndFound {A : Type 0} (reader : Reader A) (text : Bytes) (at next : ℕ) : Type 0 where
+pub record EndFound {A : Type 0} (reader : Reading A) (text : Bytes) (at next : ℕ) : Type 0 where
   pub thing : A
   pub taken : Taken reader text at thing next
 
-abbrev pub ToldEnd : {A : Type 0} → Reader A → Bytes → ℕ → Ended → Type 0
+abbrev pub ToldEnd : {A : Type 0} → Reading A → Bytes → ℕ → Ended → Type 0
 ToldEnd reader text at (ended.At next) = EndFound reader text at next
 ToldEnd reader text at ended.Malformed = Refused 10 reader text at
 
@@ -76,11 +76,11 @@ ToldRanged least greatest text at (ranged.Value number next) = RangedFound least
 ToldRanged least greatest text at ranged.Malformed = Refused 10 (readRanged least greatest) text at
 
 -- numbers are read
-pub record NumbersFound (reader : Reader (List ℕ)) (text : Bytes) (at first many next : ℕ) : Type 0 where
+pub record NumbersFound (reader : Reading (List ℕ)) (text : Bytes) (at first many next : ℕ) : Type 0 where
   pub found : Found reader text at (numbersAt text first many) next
   pub few : first + many ≤ next
 
-abbrev pub ToldNumbers : Reader (List ℕ) → Bytes → ℕ → NumbersRead → Type 0
+abbrev pub ToldNumbers : Reading (List ℕ) → Bytes → ℕ → NumbersRead → Type 0
 ToldNumbers reader text at (numbers.Numbers first many next) = NumbersFound reader text at first many next
 ToldNumbers reader text at numbers.Malformed = Refused 10 reader text at
 
@@ -93,7 +93,7 @@ abbrev pub ToldPosition : Bytes → ℕ → PositionRead → Type 0
 ToldPosition text at (position.Position name path steps next) = PositionFound text at name path steps next
 ToldPosition text at position.Malformed = Refused 10 readPosition text at
 
-abbrev pub ToldLine : Reader Line → Bytes → ℕ → LineRead → Type 0
+abbrev pub ToldLine : Reading Line → Bytes → ℕ → LineRead → Type 0
 ToldLine reader text at (line.Rewrite rule name path steps next) =
     Taken reader text at (step (rewrite (ruleOf rule) (positionAt text name path steps))) next × (path + steps ≤ next)
 ToldLine reader text at (line.Unsat name path steps next) =
@@ -112,7 +112,7 @@ pub record ToldNumbered (text : Bytes) (at number : ℕ) (r : Numbered) : Type 0
   pub numbered : r .line ≡ number
 
 -- the outcome is what another reader makes of the text from a later place on
-pub record Behind (outcome : Outcome ℕ (Line × Bytes)) (reader : Reader Line) (text : Bytes) (at next : ℕ) : Type 0 where
+pub record Behind (outcome : Outcome ℕ (Line × Bytes)) (reader : Reading Line) (text : Bytes) (at next : ℕ) : Type 0 where
   pub is : outcome ≡ reader (drop next text)
   pub after : at < next
   pub within : next ≤ length text

@@ -5,7 +5,7 @@ use native.Mathlib.Omega.{arith}
 use mathlib.Core.Path.{subst}
 use Rattle.logic.specs.Reading.{readVariable}
 use Rattle.formula.specs.memory.Bindings.{boundIn}
-use Rattle.formula.specs.memory.TermReads.{ToldWord}
+use Rattle.formula.specs.memory.TermReads.{ToldName}
 use Rattle.formula.proofs.memory.TermReads.{variable-entered, variable-refused}
 use Rattle.formula.proofs.term.read_variable.Statement.{statement}
 use Rattle.formula.proofs.term.read_variable.Tie as tie
@@ -14,14 +14,14 @@ sub-size : tie.Need-sub-size
 sub-size c =
     let variable-end = c .before .before .before .variable-end in
     let start = c .before .before .before .before .before .before in
-    let f = subst (ToldWord readVariable (start .args .text .now) (start .args .at)) (c .before .next .given .1) (variable-end .ensures) in
+    let f = subst (ToldName readVariable (start .args .text .now) (start .args .at)) (c .before .next .given .1) (variable-end .ensures) in
     omega (arith, f .after)
 
 list-name-requires : tie.Need-list-name-requires
 list-name-requires c κs =
     let variable-end = c .before .before .before .before .variable-end in
     let start = c .before .before .before .before .before .before .before in
-    let f = subst (ToldWord readVariable (start .args .text .now) (start .args .at)) (c .before .before .next .given .1) (variable-end .ensures) in
+    let f = subst (ToldName readVariable (start .args .text .now) (start .args .at)) (c .before .before .next .given .1) (variable-end .ensures) in
     (omega arith, omega (arith, f .within))
 
 mul-set-word : tie.Need-mul-set-word
@@ -39,12 +39,12 @@ returns c =
     let a = c .before .before .before .before .before .before .before .before .before .before .before .before .before .args in
     λ n.
     rw (set-word .ensures)
-    (variable-entered (a .text .now) n (boundIn (a .text .now) (a .scope)) (a .at) (a .names .now) (a .work .now) (a .to) (next .given .0 .0) (list-name .result) _ (c .is-bound .result) (subst (ToldWord readVariable (a .text .now) (a .at)) (next .given .1) (variable-end .ensures)) (list-name .ensures) (c .is-bound .ensures))
+    (variable-entered (a .text .now) n (boundIn (a .text .now) (a .scope)) (a .at) (a .names .now) (a .work .now) (a .to) (next .given .0 .0) (list-name .result) _ (c .is-bound .result) (subst (ToldName readVariable (a .text .now) (a .at)) (next .given .1) (variable-end .ensures)) (list-name .ensures) (c .is-bound .ensures))
 
 returns-2 : tie.Need-returns-2
 returns-2 c =
     let a = c .before .before .before .before .before .args in
-    λ n. variable-refused (a .text .now) n (boundIn (a .text .now) (a .scope)) (a .at) (a .names .now) (a .work .now) (a .to) (subst (ToldWord readVariable (a .text .now) (a .at)) (c .enum-told .given .1) (c .before .before .variable-end .ensures))
+    λ n. variable-refused (a .text .now) n (boundIn (a .text .now) (a .scope)) (a .at) (a .names .now) (a .work .now) (a .to) (subst (ToldName readVariable (a .text .now) (a .at)) (c .enum-told .given .1) (c .before .before .variable-end .ensures))
 
 pub read-variable-spec : {M : Type 1} → statement M
 read-variable-spec =

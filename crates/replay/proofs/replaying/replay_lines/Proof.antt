@@ -9,7 +9,7 @@ use lib.ListN.{length}
 use Rattle.replay.specs.Replay.{among}
 use Rattle.replay.specs.memory.Held.{Held}
 use Rattle.replay.specs.memory.Steps.{rowsIn, heldIn, Few}
-use Rattle.replay.specs.memory.Lines.{JudgedIn, GoingIn, ToldLine}
+use Rattle.replay.specs.memory.Lines.{JudgedIn, GoingIn, ToldMoved}
 use Rattle.replay.specs.declared.replaying.Moved.{Moved}
 use Rattle.replay.proofs.Turns.{lines-end, lines-refused, lines-on, lines-more, lines-whole, lines-finished}
 use Rattle.replay.proofs.replaying.replay_lines.Statement.{statement}
@@ -42,7 +42,7 @@ module _ (line : tie.After-replay-line Inv-loop μ-loop) where
   line-told : (other : Moved) → line .replay-line .result ≡ other → (start : Held)
       → let l = turn .before .loop in
       let a = begun .args in
-      ToldLine (a .table) rows start (a .layout) (l .work) (heldIn (a .layout) (l .live) (l .work)) (a .text .now) (l .place) (l .rules + 3) other left
+      ToldMoved (a .table) rows start (a .layout) (l .work) (heldIn (a .layout) (l .live) (l .work)) (a .text .now) (l .place) (l .rules + 3) other left
   line-told other e start = rw (e, turn .before .loop .inv .2) at (line .replay-line .ensures start)
 
   -- memory is as long as it was

@@ -12,7 +12,7 @@ use Rattle.text.specs.Problem.{Problem}
 use Rattle.text.specs.memory.Table.{problemIn}
 use Rattle.formula.specs.memory.Entries.{predicateIndex, Memory, memory}
 use Rattle.formula.specs.memory.NameTable.{namesIn}
-use Rattle.formula.specs.memory.TheoryLines.{LineFound}
+use Rattle.formula.specs.memory.TheoryLines.{TheoryLineFound}
 use Rattle.replay.specs.memory.TheoryReads.{totalsFit}
 use Rattle.replay.proofs.TheoryReads.{TheoryGoing, theory-first, names-none, totals-small, theory-refused, theory-over, theory-on, theory-end}
 use Rattle.replay.proofs.theory_reader.read_theory.Statement.{statement}
@@ -36,7 +36,7 @@ module _ (start : tie.Start Inv-loop μ-loop) where
   empty = names-none (start .args .text .now) (start .args .names .now) (start .pre .3)
 
 -- the turn in which a line is read
-module _ (line : tie.After-read-line Inv-loop μ-loop) where
+module _ (line : tie.After-read-theory-line Inv-loop μ-loop) where
   abbrev turn : tie.In-loop Inv-loop μ-loop
   turn = line .before .before .before
 
@@ -44,7 +44,7 @@ module _ (line : tie.After-read-line Inv-loop μ-loop) where
   begun = line .before .before .before .before .before .before .before .before
 
   abbrev left : Memory
-  left = memory (line .read-line .last .1 .1 .1 .1 .0) (line .read-line .last .1 .1 .1 .1 .1 .0)
+  left = memory (line .read-theory-line .last .1 .1 .1 .1 .0) (line .read-theory-line .last .1 .1 .1 .1 .1 .0)
 
 -- a line that is not refused
 found : (c : tie.After-known-told Inv-loop μ-loop) (rows : List ℕ)
@@ -52,8 +52,8 @@ found : (c : tie.After-known-told Inv-loop μ-loop) (rows : List ℕ)
     let a = begun line .args in
     let l = turn line .before .loop in
     let n = c .before .next .given .0 in
-    LineFound (problem (begun line) rows) (a .text .now) (predicateIndex (a .problem .now) (a .table)) (l .at) (memory (l .names) (l .work)) (l .full) (n .0) (n .1 .0) (n .1 .1 .0) (left line)
-found c rows = rw (c .before .next .given .1) at (c .before .before .before .before .before .read-line .ensures rows)
+    TheoryLineFound (problem (begun line) rows) (a .text .now) (predicateIndex (a .problem .now) (a .table)) (l .at) (memory (l .names) (l .work)) (l .full) (n .0) (n .1 .0) (n .1 .1 .0) (left line)
+found c rows = rw (c .before .next .given .1) at (c .before .before .before .before .before .read-theory-line .ensures rows)
 
 -- whether the totals fit
 fits : (c : tie.After-limits-fit Inv-loop μ-loop) (b : Bool) → c .limits-fit .result ≡ b
@@ -94,14 +94,14 @@ loop-again c =
       found (c .before .before .before) [] .within,
       small .0,
       small .1,
-      line .read-line .kept .1 .1 .1 .1 .1 .0 ∙ l .inv .3,
+      line .read-theory-line .kept .1 .1 .1 .1 .1 .0 ∙ l .inv .3,
       λ rows. theory-on (empty (begun line)) (l .inv .4 rows) (turn line .loop-test .taken) (found (c .before .before .before) rows) all,
     )
 
 returns-2 : tie.Need-returns-2 Inv-loop μ-loop
 returns-2 c =
     let line = c .before .before .before .before .before in
-    λ rows. theory-refused (empty (begun line)) (turn line .before .loop .inv .4 rows) (turn line .loop-test .taken) _ (rw (c .before .number .given .1) at (line .read-line .ensures rows))
+    λ rows. theory-refused (empty (begun line)) (turn line .before .loop .inv .4 rows) (turn line .loop-test .taken) _ (rw (c .before .number .given .1) at (line .read-theory-line .ensures rows))
 
 returns-3 : tie.Need-returns-3 Inv-loop μ-loop
 returns-3 c =

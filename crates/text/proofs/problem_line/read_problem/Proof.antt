@@ -18,25 +18,25 @@ abbrev μ-loop : tie.MeasureT-loop
 μ-loop text rows₀ progress₀ at₀ line₀ rows progress at line = length text - at
 
 -- a line that is not refused
-line-read : (c : tie.After-line-at Inv-loop μ-loop) → c .line-at .result .number ≡ 0
+line-read : (c : tie.After-problem-line-at Inv-loop μ-loop) → c .problem-line-at .result .number ≡ 0
     → let a = c .before .before .before .before .before .before .before .args in
     let l = c .before .before .before .loop in
-    let r = c .line-at .result in
-    PartFound (problemLine (partIn (a .text .now) (l .progress) (l .rows))) (a .text .now) (l .at) (c .line-at .last .1 .1 .1 .0) (r .next) (r .progress)
+    let r = c .problem-line-at .result in
+    PartFound (problemLine (partIn (a .text .now) (l .progress) (l .rows))) (a .text .now) (l .at) (c .problem-line-at .last .1 .1 .1 .0) (r .next) (r .progress)
 line-read c e =
     let a = c .before .before .before .before .before .before .before .args in
     let l = c .before .before .before .loop in
-    let r = c .line-at .result in
-    subst (λ (n : ℕ). ToldPart (problemLine (partIn (a .text .now) (l .progress) (l .rows))) (a .text .now) (l .at) (c .line-at .last .1 .1 .1 .0) n
-    (r .next) (r .progress)) e (c .line-at .ensures)
+    let r = c .problem-line-at .result in
+    subst (λ (n : ℕ). ToldPart (problemLine (partIn (a .text .now) (l .progress) (l .rows))) (a .text .now) (l .at) (c .problem-line-at .last .1 .1 .1 .0) n
+    (r .next) (r .progress)) e (c .problem-line-at .ensures)
 
 loop-holds : tie.Need-loop-holds Inv-loop μ-loop
 loop-holds c =
     let a = c .before .before .before .args in
     (problem-first (a .text .now) (c .beginning .result) (a .rows .now) (c .beginning .ensures), refl)
 
-line-at-requires : tie.Need-line-at-requires Inv-loop μ-loop
-line-at-requires c κs =
+problem-line-at-requires : tie.Need-problem-line-at-requires Inv-loop μ-loop
+problem-line-at-requires c κs =
     let start = c .before .before .before .before .before .before in
     let l = c .before .before .loop in
     let pre = start .pre in
@@ -45,16 +45,16 @@ line-at-requires c κs =
 same-length : tie.Need-same-length Inv-loop μ-loop
 same-length c =
     let read = c .before .before .before .before .before in
-    read .line-at .kept .1 .1 .1 .0 ∙ read .before .before .before .loop .inv .1
+    read .problem-line-at .kept .1 .1 .1 .0 ∙ read .before .before .before .loop .inv .1
 
 returns : tie.Need-returns Inv-loop μ-loop
 returns c =
     let read = c .before .before .before .before .before in
     let l = read .before .before .before .loop in
     let a = read .before .before .before .before .before .before .before .args in
-    let r = read .line-at .result in
+    let r = read .problem-line-at .result in
     problem-stopped (a .text .now) (l .progress) (l .rows) (l .at) (l .line) (l .inv .0) (read .before .before .loop-test .taken)
-    (r .number) (r .next) (r .progress) (read .line-at .last .1 .1 .1 .0) (c .before .if1 .taken) (read .line-at .ensures)
+    (r .number) (r .next) (r .progress) (read .problem-line-at .last .1 .1 .1 .0) (c .before .if1 .taken) (read .problem-line-at .ensures)
 
 add-line : tie.Need-add-line Inv-loop μ-loop
 add-line c =
@@ -74,10 +74,10 @@ loop-again c =
     let read = c .before .before .before .before .before in
     let l = read .before .before .before .loop in
     let a = read .before .before .before .before .before .before .before .args in
-    let r = read .line-at .result in (
+    let r = read .problem-line-at .result in (
       problem-on (a .text .now) (l .progress) (l .rows) (l .at) (l .line) (l .inv .0) (read .before .before .loop-test .taken)
-          (r .next) (r .progress) (read .line-at .last .1 .1 .1 .0) (line-read read (c .before .if1 .left)),
-      read .line-at .kept .1 .1 .1 .0 ∙ l .inv .1,
+          (r .next) (r .progress) (read .problem-line-at .last .1 .1 .1 .0) (line-read read (c .before .if1 .left)),
+      read .problem-line-at .kept .1 .1 .1 .0 ∙ l .inv .1,
     )
 
 same-length-2 : tie.Need-same-length-2 Inv-loop μ-loop
@@ -100,7 +100,7 @@ read-problem-spec =
     μ-loop
     (λ c κs. search needs)
     loop-holds
-    line-at-requires
+    problem-line-at-requires
     same-length
     returns
     add-line

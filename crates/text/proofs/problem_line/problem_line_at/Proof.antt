@@ -1,9 +1,9 @@
--- `problem_line::line_at` reads a line as the part asks that is read so far.
+-- `problem_line::problem_line_at` reads a line as the part asks that is read so far.
 -- Assumes nothing.
 use borrow.Author.Needs.{needs}
 use Rattle.text.proofs.ProblemLoop.{line-start, line-declaring, line-closing}
-use Rattle.text.proofs.problem_line.line_at.Statement.{statement}
-use Rattle.text.proofs.problem_line.line_at.Tie as tie
+use Rattle.text.proofs.problem_line.problem_line_at.Statement.{statement}
+use Rattle.text.proofs.problem_line.problem_line_at.Tie as tie
 
 returns : tie.Need-returns
 returns c =
@@ -26,8 +26,8 @@ returns-4 c =
     line-closing (a .text .now) (a .at) (a .progress) (c .output-line .result) (a .rows .now) (entry .pre .2)
     (c .before .enum-told4 .given .1) (c .output-line .ensures)
 
-pub line-at-spec : {M : Type 1} → statement M
-line-at-spec =
+pub problem-line-at-spec : {M : Type 1} → statement M
+problem-line-at-spec =
     tie.close
     (tie.spec
     (λ c. search needs)

@@ -1,4 +1,4 @@
--- `theory_line::read_line` judges the formula's line in the order of the numbers.
+-- `theory_line::read_theory_line` judges the formula's line in the order of the numbers.
 -- Assumes nothing.
 use native.Mathlib.Omega.{arith}
 use mathlib.Core.Path.{sym, _∙_}
@@ -9,8 +9,8 @@ use Rattle.formula.specs.memory.FormulaReads.{Found}
 use Rattle.formula.proofs.memory.PartReads.{formula-done, formula-malformed, formula-deep}
 use Rattle.formula.proofs.memory.TheoryLines.{line-refused, line-open, line-unnamed, line-unnormal, line-found}
 use borrow.Author.Needs.{needs}
-use Rattle.formula.proofs.theory_line.read_line.Statement.{statement}
-use Rattle.formula.proofs.theory_line.read_line.Tie as tie
+use Rattle.formula.proofs.theory_line.read_theory_line.Statement.{statement}
+use Rattle.formula.proofs.theory_line.read_theory_line.Tie as tie
 
 -- the formula that was read
 formula-found : (c : tie.After-next)
@@ -66,8 +66,8 @@ returns-6 c =
     let a = read .before .before .before .before .before .before .before .args in
     λ rows. line-refused (a .problem .now) (a .table) rows (a .text .now) (a .at) 6 (formula-deep _ _ _ _ _ _ _ (read .read-formula .ensures) (c .enum-told2 .given .1))
 
-pub read-line-spec : {M : Type 1} → statement M
-read-line-spec =
+pub read-theory-line-spec : {M : Type 1} → statement M
+read-theory-line-spec =
     tie.close
     (tie.spec
     (λ c κs. search needs)
