@@ -12,7 +12,8 @@ use Rattle.text.specs.Numbers.{decimal}
 use Rattle.text.specs.Outcome.{done}
 use Rattle.text.specs.Reading.{Reading, give, word, _⇒_, oneOf}
 use Rattle.text.specs.Problem.{Name, isName, readName}
-use Rattle.text.proofs.Laws.{and-left, and-right, or-left, or-right, Each, each-weaken}
+use Rattle.text.specs.Each.{Each}
+use Rattle.text.proofs.Laws.{and-left, and-right, or-left, or-right, each-weaken}
 use Rattle.text.proofs.Numbers.{decimal-first}
 use Rattle.text.proofs.Reading.{OneOrMore, each-some, Reads, reads-refuse, reads-give, reads-then, reads-weaken, reads-cond}
 use Rattle.text.proofs.Reading.{reads-word, reads-token, reads-number, reads-oneOf, reads-separated}

@@ -13,9 +13,10 @@ use Rattle.text.specs.Bytes.{Bytes, same, every}
 use Rattle.text.specs.Outcome.{done, provided, _>>=_, _>>_}
 use Rattle.text.specs.Lines.{Refusal, Judged, refusal}
 use Rattle.text.specs.Problem.{Name, Problem, problemOf, isInput, isOutput}
+use Rattle.text.specs.Valid.{Valid}
 use Rattle.text.proofs.Laws.{and-left, and-right, same-refl, same-true}
 use Rattle.text.proofs.Outcome.{Allowed, allowed-bind, allowed-weaken, allowed-provided, allowed-done, allowed-itself}
-use Rattle.text.proofs.Problem.{Valid, isInput-not-isOutput}
+use Rattle.text.proofs.Problem.{isInput-not-isOutput}
 use Rattle.text.proofs.ProblemText.{problemOf-valid}
 use Rattle.logic.specs.Formula.{Formula, truth}
 use Rattle.logic.specs.Meaning.{Structure, Extends, nowhere, holds, satisfies}

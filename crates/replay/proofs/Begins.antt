@@ -11,11 +11,12 @@ use borrow.Author.Tests.{leb-true}
 use Rattle.text.specs.Sizes.{formulaCount, theorySize}
 use Rattle.text.specs.Bytes.{Bytes, member}
 use Rattle.text.specs.Problem.{Name, Problem}
+use Rattle.text.specs.Each.{Each}
+use Rattle.text.specs.Valid.{Valid}
 use Rattle.text.specs.memory.Table.{position, tableNames, problemIn}
 use Rattle.text.specs.declared.table.Table.{Table}
-use Rattle.text.proofs.Laws.{and-left, and-right, Each}
+use Rattle.text.proofs.Laws.{and-left, and-right}
 use Rattle.text.proofs.Outcome.{allowed-done}
-use Rattle.text.proofs.Problem.{Valid}
 use Rattle.logic.specs.Formula.{Formula}
 use Rattle.logic.specs.Names.{known}
 use Rattle.logic.specs.Limits.{variables, theoryVariables, sizeTotal, sizesFit}

@@ -12,8 +12,10 @@ use Rattle.text.specs.Sizes.{textSize, levelCount, variableCount, guardQuantifi
 use Rattle.text.specs.Outcome.{done}
 use Rattle.text.specs.Problem.{Problem}
 use Rattle.text.specs.Derivation.{RuleLine}
-use Rattle.text.proofs.Laws.{and-left, and-right, Each, each-weaken, each-append}
-use Rattle.text.proofs.Problem.{Valid, isOutput-small}
+use Rattle.text.specs.Each.{Each}
+use Rattle.text.specs.Valid.{Valid}
+use Rattle.text.proofs.Laws.{and-left, and-right, each-weaken, each-append}
+use Rattle.text.proofs.Problem.{domain-few, isOutput-small}
 use Rattle.logic.specs.Formula.{Formula, truth, all, Formulas, noParts, part, size}
 use Rattle.logic.specs.Text.{spelled, textOf}
 use Rattle.logic.specs.Names.{none}
@@ -103,7 +105,7 @@ module _ (P : Problem) where
         normal = clause-form P c all;
         unbound = clause-variables P c;
         unguarded = clause-guards P c;
-        short = length-ground P (valid .greatest) (λ p o. isOutput-small P valid p o .1) f e (wellFormed-tested w .isKnown);
+        short = length-ground P (domain-few valid) (λ p o. isOutput-small P valid p o .1) f e (wellFormed-tested w .isKnown);
       }
 
   clauses-plain : Valid P → (fs : List Formula) → areClauses P fs ≡ true → Each Well fs → Each Plain fs

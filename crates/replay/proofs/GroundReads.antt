@@ -12,11 +12,12 @@ use Rattle.text.specs.Bytes.{Bytes}
 use Rattle.text.specs.Outcome.{done, refused, _>>=_}
 use Rattle.text.specs.Lines.{Judged, Refusal, refusal}
 use Rattle.text.specs.Problem.{Problem, problemOf}
+use Rattle.text.specs.Valid.{Valid}
 use Rattle.text.specs.memory.Table.{problemIn}
 use Rattle.text.specs.declared.table.Table.{Table}
+use Rattle.text.proofs.Problem.{domain-few}
 use Rattle.text.proofs.Outcome.{allowed-done}
 use Rattle.text.proofs.Refusals.{Refuses, never, only}
-use Rattle.text.proofs.Problem.{Valid}
 use Rattle.text.specs.memory.ProblemLines.{ProblemTold}
 use Rattle.text.specs.declared.problem_line.ProblemRead.{ProblemRead}
 use Rattle.text.proofs.ProblemText.{problemOf-valid}
@@ -246,7 +247,7 @@ module _ (problem theory derivation : Bytes) (rows : List ℕ) (r : ProblemRead)
       }
 
   pub problem-small : r .number ≡ 0 → r .table .domain ≤ 64
-  problem-small z = rw (domain-in problem (r .table) rows (told .inside)) at (problem-valid problem rows r told z .greatest)
+  problem-small z = rw (domain-in problem (r .table) rows (told .inside)) at (domain-few (problem-valid problem rows r told z))
 
   pub problem-read : r .number ≡ 0 → (other : List ℕ) → other ≡ rows → problemOf problem ≡ done (problemIn problem (r .table) other)
   problem-read z other e = problem-done problem rows r told z ∙ rw e

@@ -14,13 +14,14 @@ use Rattle.text.specs.Bytes.{Bytes}
 use Rattle.text.specs.Outcome.{Outcome, done, refused, mapped, provided, _>>=_, _>>_}
 use Rattle.text.specs.Problem.{Name, Problem}
 use Rattle.text.specs.Derivation.{Position, RuleLine, rewrite, unsat, trivial, splitc}
+use Rattle.text.specs.Each.{Each}
+use Rattle.text.specs.Valid.{Valid}
 use Rattle.text.specs.memory.Table.{position, tableNames, problemIn}
 use Rattle.text.specs.memory.RuleLines.{ruleOf}
 use Rattle.text.specs.declared.table.Table.{Table}
 use Rattle.text.specs.declared.rule_line.Rule.{Rule}
-use Rattle.text.proofs.Laws.{Each}
+use Rattle.text.proofs.Problem.{domain-few}
 use Rattle.text.proofs.Outcome.{Allowed, allowed-weaken, allowed-done}
-use Rattle.text.proofs.Problem.{Valid}
 use Rattle.logic.specs.Formula.{Formula, Formulas, noParts, part, depth}
 use Rattle.logic.specs.Limits.{sizesFit}
 use Rattle.logic.specs.Meaning.{countFrom}
@@ -214,7 +215,7 @@ module _ (N : Naming) (text : Bytes) (table : Table) (rows : List ℕ) (inside :
       record {
         wells = steps-well P s u (l ∷ []) one (sound .wells);
         storables = steps-every P (Storable N)
-            (λ r path f h e q. allowed-done (Storable N) (at path (apply P r) f) h (rule-storable N P (valid .greatest) r path f q) (makes-at P r e))
+            (λ r path f h e q. allowed-done (Storable N) (at path (apply P r) f) h (rule-storable N P (domain-few valid) r path f q) (makes-at P r e))
             (λ fs q. parts-storable fs q) tt s u (l ∷ []) one (sound .storables);
         fits = steps-sized P s u (l ∷ []) one (sound .fits);
       }

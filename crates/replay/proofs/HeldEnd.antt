@@ -10,10 +10,11 @@ use lib.ListN.{length}
 use Rattle.text.specs.Sizes.{levelCount}
 use Rattle.text.specs.Bytes.{Bytes}
 use Rattle.text.specs.Problem.{Name, Problem}
+use Rattle.text.specs.Each.{Each}
+use Rattle.text.specs.Valid.{Valid}
 use Rattle.text.specs.memory.Table.{position, tableNames, problemIn}
 use Rattle.text.specs.declared.table.Table.{Table}
-use Rattle.text.proofs.Laws.{and-left, and-right, Each}
-use Rattle.text.proofs.Problem.{Valid}
+use Rattle.text.proofs.Laws.{and-left, and-right}
 use Rattle.logic.specs.Formula.{Formula, truth, depth}
 use Rattle.logic.specs.Normal.{isClause}
 use Rattle.logic.proofs.WellFormed.{wellFormed-tested}

@@ -11,11 +11,11 @@ use Rattle.text.specs.Outcome.{done, refused, mapped}
 use Rattle.text.specs.Problem.{Name, Problem}
 use Rattle.text.specs.Lines.{Judged, Refusal, refusal}
 use Rattle.text.specs.Derivation.{Rule, SNAND, SNOR, STN, EPRED, EPROP, IQ, RuleLine, rewrite, unsat, trivial, splitc}
+use Rattle.text.specs.Valid.{Valid}
 use Rattle.text.specs.memory.Table.{position, tableNames, problemIn}
 use Rattle.text.specs.memory.RuleLines.{ruleOf}
 use Rattle.text.specs.declared.table.Table.{Table}
 use Rattle.text.proofs.Outcome.{Allowed, allowed-done}
-use Rattle.text.proofs.Problem.{Valid}
 use Rattle.formula.specs.memory.Clauses.{allAt, clauseAt}
 use Rattle.formula.proofs.memory.Naming.{Naming}
 use Rattle.replay.specs.Theory.{formulasOf, namesOf, State, live, ended, liveTheory, stepped}

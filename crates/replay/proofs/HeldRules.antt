@@ -12,11 +12,11 @@ use lib.Seq.{take-length, drop-append-seam}
 use Rattle.text.specs.Bytes.{Bytes}
 use Rattle.text.specs.Outcome.{Outcome, done, refused, provided, _>>=_, _>>_}
 use Rattle.text.specs.Problem.{Name, Problem}
+use Rattle.text.specs.Valid.{Valid}
 use Rattle.text.specs.memory.Table.{position, tableNames, problemIn}
 use Rattle.text.specs.memory.RuleLines.{ruleOf}
 use Rattle.text.specs.declared.table.Table.{Table}
 use Rattle.text.specs.declared.rule_line.Rule.{Rule}
-use Rattle.text.proofs.Problem.{Valid}
 use Rattle.logic.specs.Formula.{Side, Formula, truth, quantifier, size, depth}
 use Rattle.logic.specs.Names.{known, closedBut}
 use Rattle.logic.specs.Normal.{inputsOnly}

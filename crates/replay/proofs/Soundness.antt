@@ -6,7 +6,7 @@ use mathlib.Core.List.{List, [], _∷_}
 use mathlib.Core.Bool.{Bool, true, false, _&&_, and-true, and-false}
 use Rattle.text.specs.Problem.{Problem}
 use Rattle.text.specs.Derivation.{Rule, RuleLine}
-use Rattle.text.proofs.Laws.{Each}
+use Rattle.text.specs.Each.{Each}
 use Rattle.logic.specs.Formula.{Formula, truth, connective, junction, all, Formulas, part}
 use Rattle.logic.specs.Meaning.{Structure, nowhere, holds, truths, joinAll, satisfies}
 use Rattle.logic.specs.Tables.{MakesAt}

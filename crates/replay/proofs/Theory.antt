@@ -5,7 +5,8 @@ use mathlib.Core.Path.{_≡_, refl, sym, ap, _∙_}
 use mathlib.Core.List.{List, [], _∷_, _++_, map-append}
 use mathlib.Core.Bool.{Bool, _&&_, and-assoc}
 use lib.ListN.{length, length-map}
-use Rattle.text.proofs.Laws.{Each, each-append}
+use Rattle.text.specs.Each.{Each}
+use Rattle.text.proofs.Laws.{each-append}
 use Rattle.logic.specs.Formula.{Formula, Formulas, noParts, part, all}
 use Rattle.logic.specs.Meaning.{Structure, nowhere, holds, truths, joinAll, satisfies}
 use Rattle.formula.proofs.memory.Entries.{each-left, each-right}

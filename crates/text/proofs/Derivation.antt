@@ -17,7 +17,8 @@ use Rattle.text.specs.Derivation.{inBounds, allInBounds, areNames, posit
 use Rattle.text.specs.Derivation.{ruleText, numbersText, pathText, positionText, footerText, ruleLineText, lineText, versionText, grounderText}
 use Rattle.text.specs.Derivation.{readRanged, readFormulaName, readPath, readPosition, atPosition, readSplit, readFooter}
 use Rattle.text.specs.Derivation.{lineKinds, readLine, readVersion, readGrounder}
-use Rattle.text.proofs.Laws.{and-left, and-right, or-left, or-right, Each}
+use Rattle.text.specs.Each.{Each}
+use Rattle.text.proofs.Laws.{and-left, and-right, or-left, or-right}
 use Rattle.text.proofs.Reading.{OneOrMore, Reads, reads-refuse, reads-give, reads-then, reads-weaken, reads-require}
 use Rattle.text.proofs.Reading.{reads-word, reads-token, reads-number, reads-oneOf, reads-separated}
 use Rattle.text.proofs.Reading.{ReadsBack, read-word, read-token, read-number, read-separated, oneOf-word, oneOf-last, next-append}

@@ -11,8 +11,9 @@ use lib.ListN.{length}
 use borrow.Author.Tests.{eq-eqb, eqb-true, eqb-false, lt-ltb, le-ltb, ltb-true, ltb-false}
 use Rattle.text.specs.Bytes.{same, member}
 use Rattle.text.specs.Problem.{Row, before}
+use Rattle.text.specs.Each.{Each}
 use Rattle.text.specs.memory.Table.{packed, unpacked, placed, among, rankAfter, ranked}
-use Rattle.text.proofs.Laws.{same-refl, same-true, Each}
+use Rattle.text.proofs.Laws.{same-refl, same-true}
 
 -- elements that are digits
 abbrev pub Digits : Row → Type 0

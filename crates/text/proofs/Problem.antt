@@ -16,37 +16,10 @@ use Rattle.text.specs.Bytes.{same, member}
 use Rattle.text.specs.Outcome.{done, provided}
 use Rattle.text.specs.Problem.{Name, Row, Predicate, Input, Problem, inputPredicates, predicates, named, isInput, isOutput, isName, Relation, truthValue, tuples}
 use Rattle.text.specs.Problem.{given, rowsOf, domainFits, predicateFits, rowsFit, ascending, tupleTotal, tuplesFit, rowsFor, withInput, withOutput}
-use Rattle.text.proofs.Laws.{and-left, and-right, same-refl, same-true, Each}
+use Rattle.text.specs.Each.{Each}
+use Rattle.text.specs.Valid.{occurrences, Small, Declares, Tabled, Valid}
+use Rattle.text.proofs.Laws.{and-left, and-right, same-refl, same-true}
 use Rattle.text.proofs.Outcome.{Allowed, allowed-mapped, allowed-done, allowed-provided}
-
--- how many predicates have a name
-abbrev pub occurrences : List Predicate → Name → ℕ
-occurrences [] p = 0
-occurrences (q ∷ qs) p = cond (same p (q .name)) 1 0 + occurrences qs p
-
--- a predicate well spelled and within its sizes
-pub record Small (q : Predicate) : Type 0 where
-  pub spelled : isName (q .name) ≡ true
-  pub short : length (q .name) ≤ 15
-  pub few : q .arity ≤ 3
-
--- predicates that may stand together: at most 32, and no name twice
-pub record Declares (qs : List Predicate) : Type 0 where
-  pub small : Each Small qs
-  pub count : length qs ≤ 32
-  pub once : (p : Name) → occurrences qs p ≤ 1
-
--- an input with rows that it may have over n elements
-pub record Tabled (n : ℕ) (i : Input) : Type 0 where
-  pub fit : rowsFit n (i .predicate .arity) (i .rows) ≡ true
-  pub ordered : ascending (i .rows) ≡ true
-
-pub record Valid (P : Problem) : Type 0 where
-  pub least : 1 ≤ P .domain
-  pub greatest : P .domain ≤ 64
-  pub declares : Declares (predicates P)
-  pub tabled : Each (Tabled (P .domain)) (P .inputs)
-  pub total : tupleTotal (P .inputs) ≤ 1024
 
 pub occurrences-append : (qs rs : List Predicate) (p : Name) → occurrences (qs ++ rs) p ≡ occurrences qs p + occurrences rs p
 occurrences-append [] rs p = omega arith
@@ -90,6 +63,7 @@ module _ (q : Predicate) (before after : List Predicate) where
   occurrences-insert p = simp occurrences-append (omega arith)
 
   declares-insert : Declares (before ++ after) → Joins (before ++ after) q → Declares (before ++ (q ∷ after))
+  unfolding predicateCount
   declares-insert D J =
       record {
         small = each-insert Small q before after (J .small) (D .small);
@@ -104,6 +78,11 @@ module _ (q : Predicate) (before after : List Predicate) where
 pub tupleTotal-append : (is js : List Input) → tupleTotal (is ++ js) ≡ tupleTotal is + tupleTotal js
 tupleTotal-append [] js = omega arith
 tupleTotal-append (i ∷ is) js = rw (tupleTotal-append is js) (omega arith)
+
+-- a valid problem's size as a number
+pub domain-few : {P : Problem} → Valid P → P .domain ≤ 64
+unfolding domainSize
+domain-few valid = valid .greatest
 
 pub valid-domain : (n : ℕ) → domainFits n ≡ true → Valid (record { domain = n; inputs = []; outputs = [] })
 unfolding domainSize
@@ -139,6 +118,7 @@ module _ (P : Problem) (valid : Valid P) where
 
   module _ (q : Predicate) (spelled : isName (q .name) ≡ true) (fits : predicateFits P q ≡ true) where
     pub valid-input : (r : Relation) (rows : List Row) → rowsFor P (q .arity) r ≡ done rows → Valid (withInput P q rows)
+    unfolding tupleCount
     valid-input r rows e =
         let t : Tables q rows = allowed-done (Tables q) (rowsFor P (q .arity) r) rows (tables (q .name) (q .arity) r) e in
         record {
@@ -165,6 +145,7 @@ named-occurs : (qs : List Predicate) (p : Name) → named qs p ≡ true → 1 �
 named-occurs qs p e = leb-true 1 (occurrences qs p) (rw named-occurrences at e)
 
 named-small : (qs : List Predicate) (p : Name) → Each Small qs → named qs p ≡ true → (isName p ≡ true) × (length p ≤ 15)
+unfolding nameSize
 named-small [] p small e = absurd (false≢true e)
 named-small (q ∷ qs) p small e = pick (same p (q .name)) refl e (named-small qs p (small .1))
   where

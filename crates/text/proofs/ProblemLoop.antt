@@ -9,6 +9,7 @@ use Rattle.text.specs.Bytes.{Bytes}
 use Rattle.text.specs.Outcome.{done, refused}
 use Rattle.text.specs.Lines.{refusal, onLine}
 use Rattle.text.specs.Problem.{Predicate, Problem, Part, start, declaring, problemLine, readOutput, wholeProblem, problemOf}
+use Rattle.text.specs.Valid.{Valid}
 use Rattle.text.specs.memory.Going.{Going}
 use Rattle.text.specs.memory.Table.{indexed, tablePredicate, problemIn, outcomeOf}
 use Rattle.text.specs.memory.ProblemLines.{partAt, partIn, Standing, PartFound, ToldPart, LineTold, endNumber, Beginning, ProblemTold}
@@ -19,7 +20,6 @@ use Rattle.text.specs.declared.problem_line.ProblemLineRead.{ProblemLine
 use Rattle.text.specs.declared.problem_line.ProblemRead.{ProblemRead}
 use Rattle.text.proofs.Going.{going-first, going-on, going-refused, going-end}
 use Rattle.text.proofs.Outcome.{allowed-done}
-use Rattle.text.proofs.Problem.{Valid}
 use Rattle.text.proofs.ProblemText.{problemOf-valid}
 
 -- The problem's lines.

@@ -20,11 +20,13 @@ use Rattle.text.specs.Problem.{Row, Predicate, Input, Problem, tuples, p
 use Rattle.text.specs.Problem.{readName, readDomain, readPredicate, readTuples, readRelation}
 use Rattle.text.specs.Problem.{Part, start, declaring, awaiting, closing, withInput, withOutput, readInput, readOutput, problemLine, wholeProblem, problemOf}
 use Rattle.text.specs.ProblemText.{domainText, predicateText, rowText, tuplesText, rowsText, relationOf, declarationText, inputText, outputText, problemText}
-use Rattle.text.proofs.Laws.{and-left, and-right, or-left, or-right, same-refl, Each}
+use Rattle.text.specs.Each.{Each}
+use Rattle.text.specs.Valid.{occurrences, Small, Declares, Tabled, Valid}
+use Rattle.text.proofs.Laws.{and-left, and-right, or-left, or-right, same-refl}
 use Rattle.text.proofs.Numbers.{decimal-first}
 use Rattle.text.proofs.Lines.{readLines-step, readLines-end}
 use Rattle.text.proofs.Reading.{ReadsBack, read-token, read-number, read-separated, oneOf-last, next-append}
-use Rattle.text.proofs.Problem.{occurrences, Small, Declares, Tabled, Valid, occurrences-append, named-occurrences, tupleTotal-append}
+use Rattle.text.proofs.Problem.{occurrences-append, named-occurrences, tupleTotal-append}
 
 -- a problem of these parts
 abbrev problem : ℕ → List Input → List Predicate → Problem
@@ -179,7 +181,7 @@ module _ (n : ℕ) (is : List Input) where
 module _ (n : ℕ) (outs : List Predicate) where
   leads-inputs : (before after : List Input) → Valid (problem n (before ++ after) outs)
       → Leads (declaring (problem n before [])) (flatMap inputText after ++ flatMap outputText outs) (problem n (before ++ after) outs)
-  unfolding problemLine readInput declarationText inputText flatMap word oneOf
+  unfolding problemLine readInput declarationText inputText flatMap word oneOf tupleCount
   leads-inputs before [] valid =
       let others = leads-outputs n before [] outs (rw append-nil at (valid .declares)) in
       record { reads = λ most k h. rw append-nil (declaring-closing n before outs most k ∙ others .reads most k h) }
@@ -196,7 +198,7 @@ module _ (n : ℕ) (outs : List Predicate) where
 
 -- the text of a valid problem is read as that problem
 pub read-problem : (P : Problem) → Valid P → problemOf (problemText P) ≡ done P
-unfolding problemOf problemText domainText
+unfolding problemOf problemText domainText domainSize
 read-problem P valid =
     leads-line (domainText (P .domain)) (omega arith) (read-domain (P .domain) _ (valid .least) (valid .greatest))
     (leads-inputs (P .domain) (P .outputs) [] (P .inputs) valid) .reads _ 1 (omega arith)

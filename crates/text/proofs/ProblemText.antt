@@ -15,9 +15,10 @@ use Rattle.text.specs.Problem.{Row, Predicate, Problem, Relation, truthV
 use Rattle.text.specs.Problem.{isName, domainFits, predicateFits, tuplesFit, rowsFor, readName, readDomain, readPredicate, readTuples, readRelation}
 use Rattle.text.specs.ProblemText.{domainText, predicateText, tuplesText, relationText, rowsText, relationOf, declarationText, inputText, outputText, problemText}
 use Rattle.text.specs.Problem.{Part, start, declaring, awaiting, closing, readInput, readOutput, problemLine, wholeProblem, problemOf}
+use Rattle.text.specs.Valid.{Valid}
 use Rattle.text.proofs.Outcome.{Allowed, allowed-mapped, allowed-weaken, allowed-done, allowed-any}
 use Rattle.text.proofs.Lines.{readText-reads}
-use Rattle.text.proofs.Problem.{Valid, valid-domain, valid-input, valid-output}
+use Rattle.text.proofs.Problem.{valid-domain, valid-input, valid-output}
 use Rattle.text.proofs.Reading.{Reads, reads-give, reads-then, reads-weaken, reads-cond}
 use Rattle.text.proofs.Reading.{reads-require, reads-word, reads-token, reads-number, reads-oneOf, reads-separated}
 

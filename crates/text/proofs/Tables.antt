@@ -13,10 +13,11 @@ use lib.Seq.{take-nil, drop-cons}
 use borrow.Author.Tests.{eq-eqb, ne-eqb, lt-ltb, le-ltb, lt-leb, le-leb, ltb-true, ltb-false}
 use Rattle.text.specs.Bytes.{Bytes, same, member}
 use Rattle.text.specs.Problem.{Name, Row, Predicate, Problem, inputPredicates, predicates, named, declared, isInput, isOutput, rowsOf, given}
+use Rattle.text.specs.Valid.{Valid, occurrences}
 use Rattle.text.specs.declared.table.Table.{Table}
 use Rattle.text.specs.memory.Table.{among, position, indexed, tableName, tableNames, tablePredicate, tableNumbers, tableInput, problemIn, packed}
 use Rattle.text.proofs.Packing.{Digits, among-member}
-use Rattle.text.proofs.Problem.{Valid, occurrences, isInput-not-isOutput}
+use Rattle.text.proofs.Problem.{isInput-not-isOutput}
 
 -- A number among those from a place on, as they are passed one by one.
 

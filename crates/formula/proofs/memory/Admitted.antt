@@ -10,10 +10,11 @@ use lib.ListN.{length, getD, take, drop, set, replicate, length-replicate, lengt
 use lib.Seq.{sets, sets-eq, take-at, drop-drop}
 use Rattle.text.specs.Bytes.{Bytes}
 use Rattle.text.specs.Problem.{Name}
+use Rattle.text.specs.Valid.{Valid}
 use Rattle.text.specs.memory.Table.{position, tableNames, problemIn}
 use Rattle.text.specs.declared.table.Table.{Table}
-use Rattle.text.proofs.Problem.{Valid}
 use Rattle.text.proofs.Places.{next-within}
+use Rattle.text.proofs.Problem.{domain-few}
 use Rattle.logic.specs.Formula.{Side, Formula, quantifier, depth}
 use Rattle.logic.specs.Names.{known, closedBut}
 use Rattle.logic.specs.Normal.{inputsOnly}
@@ -86,4 +87,4 @@ module _ (N : Naming) (c : Side) (x : Name) (g f : Formula) (s : List ℕ) (list
         ≡ map (admits (problemIn text table rows) x g) (elementsTo (problemIn text table rows .domain))
     unfolding problemIn
     admittedFlags-words =
-        map-countFrom _ _ (table .domain) 1 (λ v l h. guardAdmits-words v (omega (arith, valid .greatest)))
+        map-countFrom _ _ (table .domain) 1 (λ v l h. guardAdmits-words v (omega (arith, domain-few valid)))

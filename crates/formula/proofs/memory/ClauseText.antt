@@ -11,9 +11,9 @@ use lib.Seq.{drop-drop, drop-cons}
 use Rattle.text.specs.Bytes.{Bytes, bytes, joined}
 use Rattle.text.specs.Numbers.{decimal}
 use Rattle.text.specs.Problem.{Name, Problem, isOutput}
+use Rattle.text.specs.Each.{Each}
 use Rattle.text.specs.memory.Table.{tableName}
 use Rattle.text.specs.declared.table.Table.{Table}
-use Rattle.text.proofs.Laws.{Each}
 use Rattle.text.proofs.Places.{next-within}
 use Rattle.logic.specs.Formula.{element, variable, Terms, noTerms, term, termCount, any, Connective, negation, junction}
 use Rattle.logic.specs.Formula.{Formula, truth, atom, connective, Formulas, noParts, part, partsOf, depth, depths}

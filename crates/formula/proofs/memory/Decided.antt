@@ -11,12 +11,12 @@ use lib.ListN.{getD, drop, replicate}
 use Rattle.text.specs.Bytes.{Bytes}
 use Rattle.text.specs.Outcome.{Outcome, done, refused}
 use Rattle.text.specs.Problem.{Name, Problem, isInput, given}
+use Rattle.text.specs.Valid.{Valid}
 use Rattle.text.specs.memory.Table.{position, tableNames, problemIn}
 use Rattle.text.specs.memory.RuleLines.{ruleOf}
 use Rattle.text.specs.declared.table.Table.{Table}
 use Rattle.text.specs.declared.rule_line.Rule.{Rule}
 use Rattle.text.specs.declared.rule_line.Rule.the-variants.{Snand, Snor, Stn, Epred, Eprop, Iq}
-use Rattle.text.proofs.Problem.{Valid}
 use Rattle.text.proofs.Tables.{isInput-in}
 use Rattle.logic.specs.Formula.{Term, Terms, noTerms, term, termCount, Side, all, any, Connective, negation, implies, impliedBy, equivalent, junction}
 use Rattle.logic.specs.Formula.{Formula, truth, atom, equal, connective, quantifier, Formulas, noParts, part, depth}

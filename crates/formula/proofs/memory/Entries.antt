@@ -10,7 +10,8 @@ use lib.ListN.{length, set}
 use lib.Seq.{sets, set-comm}
 use Rattle.text.specs.Bytes.{Bytes}
 use Rattle.text.specs.Problem.{Name}
-use Rattle.text.proofs.Laws.{and-left, and-right, Each, each-weaken, sets-append}
+use Rattle.text.specs.Each.{Each}
+use Rattle.text.proofs.Laws.{and-left, and-right, each-weaken, sets-append}
 use Rattle.formula.specs.memory.NameTable.{settled, extended, extendedBy, indexIn, namesIn, NameListed}
 use Rattle.formula.specs.memory.Entries.{Memory, memory, Entered}
 use Rattle.formula.proofs.memory.NameTable.{extended-settles, extendedBy-append, extendedBy-settles, index-extendedBy}

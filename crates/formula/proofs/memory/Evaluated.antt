@@ -11,10 +11,11 @@ use lib.Dec.{eqb, ltb}
 use lib.ListN.{length, getD, set, replicate, length-replicate, getD-replicate}
 use Rattle.text.specs.Bytes.{Bytes, same}
 use Rattle.text.specs.Problem.{Name, Row, Problem, predicates, declared, isInput, given}
+use Rattle.text.specs.Valid.{Valid}
 use Rattle.text.specs.memory.Table.{position, tableNames, problemIn}
 use Rattle.text.specs.declared.table.Table.{Table}
 use Rattle.text.proofs.Laws.{and-left, and-right}
-use Rattle.text.proofs.Problem.{Valid}
+use Rattle.text.proofs.Problem.{domain-few}
 use Rattle.text.proofs.Packing.{Digits}
 use Rattle.text.proofs.Tables.{domain-in, isInput-in, given-in, declared-in}
 use Rattle.logic.specs.Formula.{Term, element, variable, Terms, noTerms, term, termCount}
@@ -126,7 +127,7 @@ module _ (N : Naming) (text : Bytes) (table : Table) (rows : List ℕ) (inside :
   unfolding trueAt
   value-words f levels s values ρ h l k i a low =
       ap (holds (tableStructure table rows) (valued values)) (stored-words N f levels s h l)
-      ∙ sym (holds-indexed N P (tableStructure table rows) (domain-in text table rows inside) (omega (arith, valid .greatest)) relation-in f ρ (valued values) h k i a low)
+      ∙ sym (holds-indexed N P (tableStructure table rows) (domain-in text table rows inside) (omega (arith, domain-few valid)) relation-in f ρ (valued values) h k i a low)
 
   -- IQ: the guard in memory, with one variable bound, admits the elements that it admits
   pub admits-words : (x : Name) (g : Formula) (levels : ℕ) (s : List ℕ) (v : ℕ) → VariableListed N x → Storable N g → depth g ≤ levels → known P g ≡ true → inputsOnly P g ≡ true

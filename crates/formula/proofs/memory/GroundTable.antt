@@ -11,10 +11,10 @@ use lib.Dec.{leb}
 use lib.ListN.{length, getD}
 use Rattle.text.specs.Bytes.{Bytes}
 use Rattle.text.specs.Problem.{Name, isOutput}
+use Rattle.text.specs.Valid.{Valid}
 use Rattle.text.specs.memory.Table.{position, indexed, tableName, tableNames, problemIn}
 use Rattle.text.specs.declared.table.Table.{Table}
 use Rattle.text.proofs.Laws.{and-right}
-use Rattle.text.proofs.Problem.{Valid}
 use Rattle.text.proofs.Tables.{length-indexed, isOutput-in}
 use Rattle.logic.specs.Formula.{Formula, depth}
 use Rattle.logic.specs.Normal.{isClause}

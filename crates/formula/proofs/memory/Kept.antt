@@ -7,8 +7,8 @@ use mathlib.Core.Bool.{Bool, true, false, cond}
 use Rattle.text.specs.Bytes.{same}
 use Rattle.text.specs.Problem.{Name, Problem}
 use Rattle.text.specs.Derivation.{Rule}
+use Rattle.text.specs.Each.{Each}
 use Rattle.text.proofs.Outcome.{Allowed, allowed-weaken}
-use Rattle.text.proofs.Laws.{Each}
 use Rattle.logic.specs.Formula.{Term, element, variable, Terms, noTerms, term, Side, replaceTerm, replaceTerms, replace, replaces}
 use Rattle.logic.specs.Formula.{Formula, truth, atom, equal, connective, quantifier, Formulas, noParts, part}
 use Rattle.logic.specs.Meaning.{unit, countFrom, elementsTo}

@@ -9,12 +9,15 @@ use mathlib.Core.Bool.{Bool, true, false, cond, _&&_, _||_, false≢true}
 use borrow.Author.Tests.{eqb-true, leb-true, ltb-true}
 use lib.Dec.{eqb, leb}
 use lib.ListN.{length, getD, length-map}
+use Rattle.text.specs.Sizes.{predicateCount, greatestArity}
 use Rattle.text.specs.Bytes.{Bytes, same, member}
 use Rattle.text.specs.Problem.{Name, Predicate, Problem, predicates, declared}
+use Rattle.text.specs.Each.{Each}
+use Rattle.text.specs.Valid.{Small, Valid}
 use Rattle.text.specs.memory.Table.{position, tableNames, tablePredicate, problemIn}
 use Rattle.text.specs.declared.table.Table.{Table}
-use Rattle.text.proofs.Laws.{Each, and-left, and-right, same-true}
-use Rattle.text.proofs.Problem.{Small, Valid}
+use Rattle.text.proofs.Laws.{and-left, and-right, same-true}
+use Rattle.text.proofs.Problem.{domain-few}
 use Rattle.text.proofs.Tables.{map-indexed, predicates-in}
 use Rattle.logic.specs.Formula.{Term, element, variable, Terms, noTerms, term, termCount, Formula, truth, atom, equal, connective, quantifier, Formulas, noParts, part}
 use Rattle.logic.specs.Names.{termKnown, termsKnown, known, allKnown}
@@ -69,6 +72,7 @@ declared-position (q ∷ qs) p arity e = pick (same p (q .name)) e (declared-pos
     pick false e rest = let h = rest e in omega arith
 
 declared-arity : (qs : List Predicate) (p : Name) (arity : ℕ) → Each Small qs → declared qs p arity ≡ true → arity ≤ 3
+unfolding greatestArity
 declared-arity [] p arity small e = absurd (false≢true e)
 declared-arity (q ∷ qs) p arity small e = pick (same p (q .name)) (eqb (q .arity) arity) refl e (declared-arity qs p arity (small .1))
   where
@@ -86,6 +90,7 @@ tableNames-in text table rows inside =
 module _ (P : Problem) (valid : Valid P) (variableNames predicateNames : List Name) (few : length variableNames ≤ 64)
     (are : predicateNames ≡ namesOf (predicates P)) where
   pub predicates-few : length predicateNames < 256
+  unfolding predicateCount
   predicates-few = rw (are, length-map (predicates P) (λ q. q .name)) (omega (arith, valid .declares .count))
 
   abbrev pub problemNaming : Naming
@@ -97,7 +102,7 @@ module _ (P : Problem) (valid : Valid P) (variableNames predicateNames : List Na
   term-storable : (t : Term) → termKnown (P .domain) t ≡ true → VariablesIn (termVariables t) → TermStorable problemNaming t
   term-storable (element v) k h =
       let l = leb-true v (P .domain) (and-right (leb 1 v) _ k) in
-      omega (arith, valid .greatest)
+      omega (arith, domain-few valid)
   term-storable (variable x) k h = position-listed x variableNames 64 (position-member x variableNames (h .0)) few
 
   terms-storable : (ts : Terms) → termsKnown (P .domain) ts ≡ true → VariablesIn (termsVariables ts) → TermsStorable problemNaming ts
@@ -106,6 +111,7 @@ module _ (P : Problem) (valid : Valid P) (variableNames predicateNames : List Na
       (term-storable t (and-left _ _ k) (each-left _ (termVariables t) _ h), terms-storable ts (and-right (termKnown (P .domain) t) _ k) (each-right _ (termVariables t) _ h))
 
   predicate-listed : (p : Name) (arity : ℕ) → declared (predicates P) p arity ≡ true → HasIndex (λ q. position q predicateNames) (λ i. getD predicateNames i []) 32 p
+  unfolding predicateCount
   predicate-listed p arity e =
       position-listed p predicateNames 32 (rw are (declared-position (predicates P) p arity e)) (rw (are, length-map (predicates P) (λ q. q .name)) (valid .declares .count))
 

@@ -14,9 +14,10 @@ use borrow.Author.Tests.{le-leb, lt-leb, lt-ltb, le-ltb}
 use Rattle.text.specs.Sizes.{nameSize, variableCount}
 use Rattle.text.specs.Bytes.{Bytes, same, member}
 use Rattle.text.specs.Problem.{Name}
+use Rattle.text.specs.Each.{Each}
 use Rattle.text.specs.memory.Table.{position, indexed}
 use Rattle.text.proofs.Tables.{length-indexed, indexed-append, indexed-agree}
-use Rattle.text.proofs.Laws.{or-left, or-right, same-refl, Each}
+use Rattle.text.proofs.Laws.{or-left, or-right, same-refl}
 use Rattle.logic.specs.Limits.{namesShort}
 use Rattle.formula.specs.memory.NameTable.{settled, extended, extendedBy, indexIn, nameIn, namesIn, withName, NameListed, listFits}
 

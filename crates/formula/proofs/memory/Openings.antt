@@ -9,7 +9,7 @@ use lib.ListN.{length, drop}
 use lib.Seq.{drop-drop}
 use Rattle.text.specs.Bytes.{Bytes, bytes, begins}
 use Rattle.text.specs.Reading.{Reading, give, _⇒_, oneOf}
-use Rattle.text.proofs.Laws.{Each}
+use Rattle.text.specs.Each.{Each}
 use Rattle.text.proofs.Reading.{begins-split}
 use Rattle.text.proofs.Found.{word-found}
 use Rattle.logic.specs.Formula.{all, any, implies, impliedBy, equivalent, Formula, truth}

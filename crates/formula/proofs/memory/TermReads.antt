@@ -13,8 +13,9 @@ use Rattle.text.specs.Bytes.{Bytes, bytes, next, same, span, isDigit, isCapital
 use Rattle.text.specs.Outcome.{done, refused}
 use Rattle.text.specs.Reading.{Reading, token, readNumber}
 use Rattle.text.specs.Problem.{Name, isElement, isName, readName}
+use Rattle.text.specs.Each.{Each}
 use Rattle.text.specs.memory.Numbers.{SmallFound, LargeFound}
-use Rattle.text.proofs.Laws.{or-left, Each}
+use Rattle.text.proofs.Laws.{or-left}
 use Rattle.text.proofs.Reading.{span-split, span-take}
 use Rattle.logic.proofs.Reading.{reads-term}
 use Rattle.text.proofs.Separated.{reads-shrinks, prepended, prepended-none}

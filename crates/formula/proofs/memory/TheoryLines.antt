@@ -15,9 +15,10 @@ use Rattle.text.specs.Outcome.{Outcome, done, refused}
 use Rattle.text.specs.Outcome as outcome
 use Rattle.text.specs.Reading.{Reading, require, _>>=_, _>>_, word}
 use Rattle.text.specs.Problem.{Name, Problem}
+use Rattle.text.specs.Each.{Each}
 use Rattle.text.specs.memory.Table.{problemIn}
 use Rattle.text.specs.declared.table.Table.{Table}
-use Rattle.text.proofs.Laws.{and-left, Each, each-weaken}
+use Rattle.text.proofs.Laws.{and-left, each-weaken}
 use Rattle.text.proofs.FoundBytes.{byte-found}
 use Rattle.logic.specs.Formula.{Formula, partsOf, size, sizes}
 use Rattle.logic.specs.Reading.{readFormula}
