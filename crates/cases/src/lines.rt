@@ -1,6 +1,7 @@
 // The file `lines`: derivation lines, each with the number of its line and what it is read as.
 use crate::say;
 use crate::texts;
+use text::rule_line::AtPosition;
 use text::rule_line::LineRead;
 use text::rule_line::Rule;
 ghost use Prim.Native.Nat.{_≤_, _<_};
@@ -17,6 +18,14 @@ fn say_rule(rule: Rule) {
     }
 }
 
+fn say_kind(kind: AtPosition) {
+    match kind {
+        AtPosition::Rewrite(rule) => say_rule(rule),
+        AtPosition::Unsat => say::word(b"UNSAT"),
+        AtPosition::Trivial => say::word(b"TRIVIAL"),
+    }
+}
+
 fn say_position(name: u32, steps: usize) {
     say::counted(b" name=", name as u64);
     say::counted(b" steps=", steps as u64);
@@ -28,34 +37,14 @@ fn one(text: &[u8], at: usize) -> usize
     ensures { λ r. ⌜ (at < r) × (r ≤ length (now (text .entry))) ⌝ }
 {
     match text::rule_line::line_at(text, at) {
-        LineRead::Rewrite {
-            rule,
+        LineRead::Position {
+            kind,
             name,
             path: _,
             steps,
             next,
         } => {
-            say_rule(rule);
-            say_position(name, steps);
-            next
-        }
-        LineRead::Unsat {
-            name,
-            path: _,
-            steps,
-            next,
-        } => {
-            say::word(b"UNSAT");
-            say_position(name, steps);
-            next
-        }
-        LineRead::Trivial {
-            name,
-            path: _,
-            steps,
-            next,
-        } => {
-            say::word(b"TRIVIAL");
+            say_kind(kind);
             say_position(name, steps);
             next
         }

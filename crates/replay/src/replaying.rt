@@ -7,6 +7,7 @@ use crate::whole::refuted;
 use crate::whole::removed;
 use crate::whole::split;
 use text::reader::read_line;
+use text::rule_line::AtPosition;
 use text::rule_line::Ended;
 use text::rule_line::LineRead;
 use text::rule_line::grounder_end;
@@ -15,9 +16,10 @@ use text::table::Table;
 ghost use mathlib.Core.Path.{_≡_};
 ghost use Prim.Native.Nat.{_≤_, _<_};
 ghost use lib.ListN.{length};
+ghost use Rattle.text.specs.memory.RuleLines.{makeOf, positionAt};
 ghost use Rattle.replay.specs.Replay.{among, derivationFrom};
 ghost use Rattle.replay.specs.memory.Held.{Held, steppedIn};
-ghost use Rattle.replay.specs.memory.Steps.{rowsIn, heldIn, Arranged, Few};
+ghost use Rattle.replay.specs.memory.Steps.{rowsIn, heldIn, Arranged, Few, ToldStep};
 ghost use Rattle.replay.specs.memory.Lines.{JudgedIn, GoingIn, ToldMoved, ToldReplayed, movedBy};
 
 // What a derivation comes to: the live formulas, the count of rule lines and the footer's names; or a number and a line.
@@ -60,6 +62,30 @@ fn moved_by(step: Step, next: usize, line: u32) -> Moved
     }
 }
 
+// A rule line that ends with its position, done.
+fn step_at(
+    kind: AtPosition,
+    text: &[u8],
+    work: &mut [u32],
+    layout: Layout,
+    live: Live,
+    table: Table,
+    name: u32,
+    path: usize,
+    steps: usize,
+) -> Step
+    requires { ⌜ Arranged layout (length (now work)) × Few live × (table .domain ≤ 64) × (path ≤ length (now text)) × (length (now text) ≤ 65536) × (steps ≤ 65536) ⌝ }
+    ensures { λ r. ⌜ ToldStep (steppedIn table (rowsIn layout (now (work .entry))) (heldIn layout live (now (work .entry))) (makeOf kind (positionAt (now (text .entry)) name path steps))) layout (now (work .entry)) r (now (work .exit)) ⌝ }
+{
+    match kind {
+        AtPosition::Rewrite(rule) => {
+            rewritten(text, work, layout, live, table, rule, name, path, steps)
+        }
+        AtPosition::Unsat => refuted(text, work, layout, live, name, path, steps),
+        AtPosition::Trivial => removed(text, work, layout, live, name, path, steps),
+    }
+}
+
 // The line at a place, under its number, read and applied.
 fn replay_line(
     text: &[u8],
@@ -76,34 +102,14 @@ fn replay_line(
     let numbered = read_line(text, at, line);
     let read = numbered.read;
     match read {
-        LineRead::Rewrite {
-            rule,
+        LineRead::Position {
+            kind,
             name,
             path,
             steps,
             next,
         } => moved_by(
-            rewritten(text, work, layout, live, table, rule, name, path, steps),
-            next,
-            numbered.line,
-        ),
-        LineRead::Unsat {
-            name,
-            path,
-            steps,
-            next,
-        } => moved_by(
-            refuted(text, work, layout, live, name, path, steps),
-            next,
-            numbered.line,
-        ),
-        LineRead::Trivial {
-            name,
-            path,
-            steps,
-            next,
-        } => moved_by(
-            removed(text, work, layout, live, name, path, steps),
+            step_at(kind, text, work, layout, live, table, name, path, steps),
             next,
             numbered.line,
         ),

@@ -28,22 +28,17 @@ pub enum Rule {
     Iq,
 }
 
+// A rule line that ends with its position.
+pub enum AtPosition {
+    Rewrite(Rule),
+    Unsat,
+    Trivial,
+}
+
 // A line: its formula's name, and for each list of numbers the place of the first and how many there are.
 pub enum LineRead {
-    Rewrite {
-        rule: Rule,
-        name: u32,
-        path: usize,
-        steps: usize,
-        next: usize,
-    },
-    Unsat {
-        name: u32,
-        path: usize,
-        steps: usize,
-        next: usize,
-    },
-    Trivial {
+    Position {
+        kind: AtPosition,
         name: u32,
         path: usize,
         steps: usize,
@@ -87,13 +82,6 @@ enum NumbersRead {
 enum PositionRead {
     Position(u32, usize, usize, usize),
     Malformed,
-}
-
-// A rule line that ends with its position.
-enum AtPosition {
-    Rewrite(Rule),
-    Unsat,
-    Trivial,
 }
 
 // The kind of a line, and the place after the word that tells it.
@@ -201,26 +189,12 @@ fn position_line_at(text: &[u8], at: usize, kind: AtPosition) -> LineRead
     let Ended::At(next) = word_end(text, last, b"\n") else {
         return LineRead::Malformed;
     };
-    match kind {
-        AtPosition::Rewrite(rule) => LineRead::Rewrite {
-            rule,
-            name,
-            path,
-            steps,
-            next,
-        },
-        AtPosition::Unsat => LineRead::Unsat {
-            name,
-            path,
-            steps,
-            next,
-        },
-        AtPosition::Trivial => LineRead::Trivial {
-            name,
-            path,
-            steps,
-            next,
-        },
+    LineRead::Position {
+        kind,
+        name,
+        path,
+        steps,
+        next,
     }
 }
 

@@ -94,12 +94,8 @@ ToldPosition text at (position.Position name path steps next) = PositionFound te
 ToldPosition text at position.Malformed = Refused 10 readPosition text at
 
 abbrev pub ToldLine : Reading Line → Bytes → ℕ → LineRead → Type 0
-ToldLine reader text at (line.Rewrite rule name path steps next) =
-    Taken reader text at (step (rewrite (ruleOf rule) (positionAt text name path steps))) next × (path + steps ≤ next)
-ToldLine reader text at (line.Unsat name path steps next) =
-    Taken reader text at (step (unsat (positionAt text name path steps))) next × (path + steps ≤ next)
-ToldLine reader text at (line.Trivial name path steps next) =
-    Taken reader text at (step (trivial (positionAt text name path steps))) next × (path + steps ≤ next)
+ToldLine reader text at (line.Position kind name path steps next) =
+    Taken reader text at (step (makeOf kind (positionAt text name path steps))) next × (path + steps ≤ next)
 ToldLine reader text at (line.Split name path steps names many next) =
     Taken reader text at (step (splitc (positionAt text name path steps) (numbersAt text names many))) next
     × ((path + steps ≤ next) × (names + many ≤ next))

@@ -4,7 +4,7 @@ use borrow.Author.Needs.{needs}
 use native.Mathlib.Omega.{arith}
 use Rattle.replay.specs.memory.Held.{Held, steppedIn}
 use Rattle.replay.specs.memory.Steps.{heldIn}
-use Rattle.replay.proofs.Turns.{name-rule, stepped-line, footer-line, malformed-line}
+use Rattle.replay.proofs.Turns.{stepped-line, footer-line, malformed-line}
 use Rattle.replay.proofs.replaying.replay_line.Statement.{statement}
 use Rattle.replay.proofs.replaying.replay_line.Tie as tie
 
@@ -16,32 +16,19 @@ module _ (line : tie.After-read-line) where
   abbrev memory : Held
   memory = heldIn (begun .args .layout) (begun .args .live) (begun .args .work .now)
 
-rewritten-requires : tie.Need-rewritten-requires
-rewritten-requires c κs =
+step-at-requires : tie.Need-step-at-requires
+step-at-requires c κs =
     let t = rw (c .before .before .read .given .1) at (c .before .before .before .before .read-line .ensures .told) in
     let pre = c .before .before .before .before .before .before .before .pre in
     (pre .0, pre .1, pre .2, omega (arith, t .1, t .0 .within), pre .4, omega (arith, t .1, t .0 .within, pre .4))
 
-refuted-requires : tie.Need-refuted-requires
-refuted-requires c κs =
-    let t = rw (c .before .before .read2 .given .1) at (c .before .before .before .before .read-line .ensures .told) in
-    let pre = c .before .before .before .before .before .before .before .pre in
-    (pre .0, pre .1, omega (arith, t .1, t .0 .within), pre .4, omega (arith, t .1, t .0 .within, pre .4))
-
-removed-requires : tie.Need-removed-requires
-removed-requires c κs =
-    let t = rw (c .before .before .read3 .given .1) at (c .before .before .before .before .read-line .ensures .told) in
-    let pre = c .before .before .before .before .before .before .before .pre in
-    (pre .0, pre .1, omega (arith, t .1, t .0 .within), pre .4, omega (arith, t .1, t .0 .within, pre .4))
-
 split-requires : tie.Need-split-requires
 split-requires c κs =
-    let t = rw (c .before .before .read4 .given .1) at (c .before .before .before .before .read-line .ensures .told) in
+    let t = rw (c .before .before .read2 .given .1) at (c .before .before .before .before .read-line .ensures .told) in
     let pre = c .before .before .before .before .before .before .before .pre in
     (pre .0, pre .1, omega (arith, t .1 .0, t .0 .within), pre .4, omega (arith, t .1 .0, t .0 .within, pre .4), omega (arith, t .1 .1, t .0 .within, pre .4))
 
 returns : tie.Need-returns
-unfolding steppedIn
 returns c =
     let done = c .before .before .before in
     let line = done .before .before .before .before .before in
@@ -49,7 +36,7 @@ returns c =
     let t = rw (done .before .before .before .read .given .1) at (line .read-line .ensures .told) in
     λ first.
     rw (c .moved-by .ensures)
-    (stepped-line (a .table) first (a .layout) (a .work .now) (memory line) (line .read-line .ensures .numbered) (t .0) (done .rewritten .result) (done .rewritten .last .1 .0) (rw name-rule (done .rewritten .ensures)))
+    (stepped-line (a .table) first (a .layout) (a .work .now) (memory line) (line .read-line .ensures .numbered) (t .0) (done .step-at .result) (done .step-at .last .1 .1 .0) (done .step-at .ensures))
 
 returns-2 : tie.Need-returns-2
 unfolding steppedIn
@@ -60,39 +47,17 @@ returns-2 c =
     let t = rw (done .before .before .before .read2 .given .1) at (line .read-line .ensures .told) in
     λ first.
     rw (c .moved-by2 .ensures)
-    (stepped-line (a .table) first (a .layout) (a .work .now) (memory line) (line .read-line .ensures .numbered) (t .0) (done .refuted .result) (done .refuted .last .1 .0) (done .refuted .ensures))
-
-returns-3 : tie.Need-returns-3
-unfolding steppedIn
-returns-3 c =
-    let done = c .before .before .before in
-    let line = done .before .before .before .before .before in
-    let a = begun line .args in
-    let t = rw (done .before .before .before .read3 .given .1) at (line .read-line .ensures .told) in
-    λ first.
-    rw (c .moved-by3 .ensures)
-    (stepped-line (a .table) first (a .layout) (a .work .now) (memory line) (line .read-line .ensures .numbered) (t .0) (done .removed .result) (done .removed .last .1 .0) (done .removed .ensures))
-
-returns-4 : tie.Need-returns-4
-unfolding steppedIn
-returns-4 c =
-    let done = c .before .before .before in
-    let line = done .before .before .before .before .before in
-    let a = begun line .args in
-    let t = rw (done .before .before .before .read4 .given .1) at (line .read-line .ensures .told) in
-    λ first.
-    rw (c .moved-by4 .ensures)
     (stepped-line (a .table) first (a .layout) (a .work .now) (memory line) (line .read-line .ensures .numbered) (t .0) (done .split .result) (done .split .last .1 .0) (done .split .ensures))
 
-returns-5 : tie.Need-returns-5
-returns-5 c =
+returns-3 : tie.Need-returns-3
+returns-3 c =
     let line = c .before .before .before in
     let a = begun line .args in
-    let t = rw (c .before .read5 .given .1) at (line .read-line .ensures .told) in
+    let t = rw (c .before .read3 .given .1) at (line .read-line .ensures .told) in
     λ first. footer-line (a .table) first (a .layout) (a .work .now) (memory line) (line .read-line .ensures .numbered) _ _ (t .0) (t .1)
 
-returns-6 : tie.Need-returns-6
-returns-6 c =
+returns-4 : tie.Need-returns-4
+returns-4 c =
     let line = c .before .before in
     let a = begun line .args in
     let t = rw (c .enum-told .given .1) at (line .read-line .ensures .told) in
@@ -104,13 +69,7 @@ replay-line-spec =
     (tie.spec
     (λ c κs. search needs)
     (λ c. search needs)
-    rewritten-requires
-    (λ c κs. search needs)
-    (λ c. search needs)
-    refuted-requires
-    (λ c κs. search needs)
-    (λ c. search needs)
-    removed-requires
+    step-at-requires
     (λ c κs. search needs)
     (λ c. search needs)
     split-requires
@@ -121,9 +80,5 @@ replay-line-spec =
     returns
     (λ c. search needs)
     returns-2
-    (λ c. search needs)
     returns-3
-    (λ c. search needs)
-    returns-4
-    returns-5
-    returns-6)
+    returns-4)

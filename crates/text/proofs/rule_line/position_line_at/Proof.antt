@@ -3,8 +3,7 @@
 use borrow.Author.Needs.{needs}
 use mathlib.Core.Path.{subst}
 use Rattle.text.specs.Bytes.{bytes}
-use Rattle.text.specs.Derivation.{rewrite, unsat, trivial}
-use Rattle.text.specs.memory.RuleLines.{ruleOf, makeOf, ToldWord, PositionFound, ToldPosition}
+use Rattle.text.specs.memory.RuleLines.{makeOf, ToldWord, PositionFound, ToldPosition}
 use Rattle.text.proofs.LinePlaces.{last-refused, last-open, last-found}
 use Rattle.text.proofs.rule_line.position_line_at.Statement.{statement}
 use Rattle.text.proofs.rule_line.position_line_at.Tie as tie
@@ -35,36 +34,11 @@ returns-2 c =
 
 returns-3 : tie.Need-returns-3
 returns-3 c =
-    let next = c .before .before .before .before .next in
-    let word-end = c .before .before .before .before .before .before .word-end in
-    let before = c .before .before .before .before .before .before .before .before .before in
-    let name = c .before .before .before .before .before .before .before .before .before .name in
-    let a = c .before .before .before .before .before .before .before .before .before .before .before .before .before .args in
-    rw (c .before .kind .given .1)
-    (last-found (rewrite (ruleOf (c .before .kind .given .0 .0))) (position (before))
-    (subst (ToldWord (bytes "\n") (a .text .now) (name .given .0 .1 .1 .1 .0)) (next .given .1) (word-end .ensures)))
-
-returns-4 : tie.Need-returns-4
-returns-4 c =
-    let next = c .before .before .before .next in
-    let word-end = c .before .before .before .before .before .word-end in
-    let before = c .before .before .before .before .before .before .before .before in
-    let name = c .before .before .before .before .before .before .before .before .name in
-    let a = c .before .before .before .before .before .before .before .before .before .before .before .before .args in
-    rw (c .enum-told3 .given .1)
-    (last-found unsat (position (before))
-    (subst (ToldWord (bytes "\n") (a .text .now) (name .given .0 .1 .1 .1 .0)) (next .given .1) (word-end .ensures)))
-
-returns-5 : tie.Need-returns-5
-returns-5 c =
-    let next = c .before .before .before .next in
-    let word-end = c .before .before .before .before .before .word-end in
-    let before = c .before .before .before .before .before .before .before .before in
-    let name = c .before .before .before .before .before .before .before .before .name in
-    let a = c .before .before .before .before .before .before .before .before .before .before .before .before .args in
-    rw (c .enum-told4 .given .1)
-    (last-found trivial (position (before))
-    (subst (ToldWord (bytes "\n") (a .text .now) (name .given .0 .1 .1 .1 .0)) (next .given .1) (word-end .ensures)))
+    let before = c .before .before .before .before .before .before in
+    let name = before .name in
+    let a = before .before .before .before .before .args in
+    last-found (makeOf (a .kind)) (position before)
+    (subst (ToldWord (bytes "\n") (a .text .now) (name .given .0 .1 .1 .1 .0)) (c .before .next .given .1) (c .before .before .before .word-end .ensures))
 
 pub position-line-at-spec : {M : Type 1} → statement M
 position-line-at-spec =
@@ -79,9 +53,4 @@ position-line-at-spec =
     (λ c. search needs)
     (λ c. search needs)
     returns-2
-    (λ c. search needs)
-    (λ c. search needs)
-    (λ c. search needs)
-    returns-3
-    returns-4
-    returns-5)
+    returns-3)
