@@ -1,8 +1,8 @@
 // A text as a file of data/ writes it: as it is, but for what begins with `\`. A `\` at the end of a line leaves out the LF; `\x0d` is
 // the byte 13, `\{3*ab}` is `ababab`, `\{2..5}` is `2,3,4,5`; `\` before any other byte is that byte.
 use text::byte::peek;
+use text::cell::set_byte;
 use text::number::digits_at;
-use text::number::put;
 use text::number::write_number;
 ghost use Prim.Native.Nat.{_≤_, _<_};
 
@@ -27,7 +27,7 @@ fn onward(at: usize, next: usize, end: usize) -> usize
 
 fn put_byte(texts: &mut [u8], to: usize, limit: usize, b: u8) -> usize {
     if to < limit {
-        put(texts, to, b);
+        set_byte(texts, to, b);
         return to + 1;
     }
     to

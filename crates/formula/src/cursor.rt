@@ -1,5 +1,5 @@
 // Printing with a cursor: each byte is counted, compared with a claim, and stored only if asked.
-use text::number::put;
+use text::cell::set_byte;
 ghost use mathlib.Core.Path.{_≡_};
 ghost use mathlib.Core.List.{[], _∷_};
 ghost use mathlib.Core.Bool.{cond};
@@ -49,7 +49,7 @@ fn put_if(store: bool, out: &mut [u8], at: usize, b: u8)
     ensures { λ r. ⌜ now (out .exit) ≡ cond store (set (now (out .entry)) at b) (now (out .entry)) ⌝ }
 {
     if store {
-        put(out, at, b);
+        set_byte(out, at, b);
     }
 }
 

@@ -18,12 +18,12 @@ use crate::part_list::close_size;
 use crate::part_list::further_parts;
 use crate::part_list::none_follow;
 use crate::part_list::parts_close;
-use crate::store::set_word;
 use crate::term::Behind;
 use crate::term::variable_end;
 use crate::word::Sign;
 use text::byte::begins_at;
 use text::byte::peek;
+use text::cell::set_number;
 use text::table::Table;
 ghost use mathlib.Core.Path.{_≡_};
 ghost use Prim.Native.Nat.{_+_, _≤_, _<_};
@@ -157,7 +157,7 @@ fn read_connective(
     ensures { λ r. ⌜ ToldBehind (readConnective (readFormula levels) (connectiveOf sign)) (settingOf (now (text .entry)) scope (now (problem .entry)) table) at (memory (now (names .entry)) (now (work .entry))) to r (memory (now (names .exit)) (now (work .exit))) ⌝ }
 {
     if none_follow(text, at, sign) {
-        set_word(work, to, connective_word(sign, 0));
+        set_number(work, to, connective_word(sign, 0));
         return read_to(at + 1, 1, connective_facts(sign, simple_facts(true, true)));
     }
     let most = further_parts(text, sign);
@@ -182,7 +182,7 @@ fn read_connective(
             if !parts_close(text, next, sign, count) {
                 return Read::Malformed;
             }
-            set_word(work, to, connective_word(sign, count as u32));
+            set_number(work, to, connective_word(sign, count as u32));
             let end = next + close_size(sign);
             read_to(end, size + 1, connective_facts(sign, facts))
         }
@@ -288,7 +288,7 @@ fn read_quantifier(
                     guard,
                     body,
                 } => {
-                    set_word(work, to, quantifier_word(every, index));
+                    set_number(work, to, quantifier_word(every, index));
                     read_to(next, size + 1, quantifier_facts(every, guard, body))
                 }
                 GuardedRead::Malformed => Read::Malformed,

@@ -1,26 +1,17 @@
 // Words stored in lent memory, in which the theory stands at the front and the next theory is made behind it.
-ghost use mathlib.Core.Path.{_≡_};
+use text::cell::set_number;
 ghost use mathlib.Core.List.{[], _∷_};
 ghost use Prim.Native.Nat.{_+_, _≤_, _<_};
-ghost use lib.ListN.{length, set};
+ghost use lib.ListN.{length};
 ghost use lib.Seq.{slice};
 ghost use Rattle.formula.specs.memory.Storing.{Stores, Behind, Placed, Rewritten};
-
-// Stores a word, where there is room.
-pub fn set_word(work: &mut [u32], at: usize, word: u32)
-    ensures { λ r. ⌜ now (work .exit) ≡ set (now (work .entry)) at word ⌝ }
-{
-    if at < work.len() {
-        work[at] = word;
-    }
-}
 
 // Stores a word, where there is room, and tells the place after it.
 pub fn put(work: &mut [u32], to: usize, word: u32) -> usize
     requires { ⌜ to < 18446744073709551615 ⌝ }
     ensures { λ r. ⌜ Stores (now (work .entry)) to (word ∷ []) r (now (work .exit)) ⌝ }
 {
-    set_word(work, to, word);
+    set_number(work, to, word);
     to + 1
 }
 

@@ -3,13 +3,13 @@ use crate::binding::Scope;
 use crate::binding::is_bound;
 use crate::fact::both;
 use crate::name_table::list_name;
-use crate::store::set_word;
 use text::byte::Class;
 use text::byte::is_capital;
 use text::byte::is_digit;
 use text::byte::is_small;
 use text::byte::peek;
 use text::byte::run_end;
+use text::cell::set_number;
 use text::name::equal;
 use text::name::part;
 use text::number::Number;
@@ -99,7 +99,7 @@ fn read_element(text: &[u8], at: usize, domain: u32, work: &mut [u32], to: usize
 {
     match number_at(text, at) {
         Number::Value { next, value } => {
-            set_word(work, to, value * 16 + 12);
+            set_number(work, to, value * 16 + 12);
             TermRead::Done {
                 next,
                 named: is_element(domain, value),
@@ -125,7 +125,7 @@ fn read_variable(
         Behind::At(next) => {
             let size = next - at;
             let index = list_name(text, names, at, size);
-            set_word(work, to, index * 16 + 13);
+            set_number(work, to, index * 16 + 13);
             TermRead::Done {
                 next,
                 named: is_bound(text, scope, at, size),

@@ -1,5 +1,6 @@
 // What stands in the texts: bytes, numbers, lines, the problem and derivation lines.
 pub mod byte;
+pub mod cell;
 pub mod declaration;
 pub mod line;
 pub mod name;

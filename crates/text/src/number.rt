@@ -1,10 +1,11 @@
 // Numbers: read at a place, of any number of digits, and written.
 use crate::byte::is_digit;
 use crate::byte::peek;
+use crate::cell::set_byte;
 ghost use mathlib.Core.Path.{_≡_};
 ghost use mathlib.Core.Bool.{true};
 ghost use Prim.Native.Nat.{_+_, _-_, _*_, _≤_, _<_, _^_, min};
-ghost use lib.ListN.{length, set};
+ghost use lib.ListN.{length};
 ghost use lib.Seq.{sets};
 ghost use Rattle.text.specs.Bytes.{isDigit};
 ghost use Rattle.text.specs.Numbers.{isNumber, decimal};
@@ -83,25 +84,16 @@ pub fn number_at(text: &[u8], at: usize) -> Number
     Number::Beyond { next }
 }
 
-// A byte is stored where there is room.
-pub fn put(out: &mut [u8], at: usize, b: u8)
-    ensures { λ r. ⌜ now (out .exit) ≡ set (now (out .entry)) at b ⌝ }
-{
-    if at < out.len() {
-        out[at] = b;
-    }
-}
-
 // The digits of a number, from a place on; the place after them.
 pub fn write_number(n: u32, out: &mut [u8], at: usize) -> usize
     requires { ⌜ at < 2 ^ 63 ⌝ }
     ensures { λ r. ⌜ (now (out .exit) ≡ sets (now (out .entry)) at (decimal n)) × (r ≡ at + length (decimal n)) ⌝ }
 {
     if n < 10 {
-        put(out, at, b'0' + n as u8);
+        set_byte(out, at, b'0' + n as u8);
         return at + 1;
     }
     let last = write_number(n / 10, out, at);
-    put(out, last, b'0' + (n % 10) as u8);
+    set_byte(out, last, b'0' + (n % 10) as u8);
     last + 1
 }

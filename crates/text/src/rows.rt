@@ -1,11 +1,12 @@
 // The rows of an input predicate: read, judged, and stored as one number each.
 use crate::byte::begins_at;
 use crate::byte::peek;
+use crate::cell::set_number;
 use crate::number::Number;
 use crate::number::number_at;
 ghost use mathlib.Core.Path.{_≡_};
 ghost use Prim.Native.Nat.{_+_, _≤_, _<_};
-ghost use lib.ListN.{length, set};
+ghost use lib.ListN.{length};
 ghost use Rattle.text.specs.memory.Table.{placed};
 ghost use Rattle.text.specs.memory.Rows.{RowBounded, RowMore, ToldElement, ToldTuple, RowsBounded, RowsMore, ToldTuples};
 ghost use Rattle.text.specs.memory.Rows.{ToldTruth, ToldListed, ToldRelation, RowsGiven, ToldRowsRead};
@@ -132,15 +133,6 @@ fn tuple_at(text: &[u8], at: usize, domain: u32) -> TupleRead
     }
 }
 
-// A number is stored where there is room.
-fn put(rows: &mut [u32], to: usize, n: u32)
-    ensures { λ _. ⌜ now (rows .exit) ≡ set (now (rows .entry)) to n ⌝ }
-{
-    if to < rows.len() {
-        rows[to] = n;
-    }
-}
-
 // Rows with one row more: it has to fit the arity, to come behind the last, and to find room.
 fn kept(
     before: RowsKept,
@@ -167,7 +159,7 @@ fn kept(
                 if total + count >= 1024 {
                     return RowsKept::Unfit;
                 }
-                put(rows, to + count as usize, key);
+                set_number(rows, to + count as usize, key);
                 RowsKept::Fitting {
                     count: count + 1,
                     last: rank,
@@ -291,7 +283,7 @@ fn rows_of(relation: RelationRead, arity: u32, rows: &mut [u32], to: usize) -> R
                 return RowsRead::Refused { number: 4 };
             }
             if value {
-                put(rows, to, 0);
+                set_number(rows, to, 0);
                 return RowsRead::Rows { next, count: 1 };
             }
             RowsRead::Rows { next, count: 0 }

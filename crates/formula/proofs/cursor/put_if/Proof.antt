@@ -7,7 +7,7 @@ use Rattle.formula.proofs.cursor.put_if.Tie as tie
 returns : tie.Need-returns
 returns c =
     let if1 = c .before .before .before .before .if1 in
-    rw (if1 .taken) (c .before .before .put .ensures)
+    rw (if1 .taken) (c .before .before .set-byte .ensures)
 
 pub put-if-spec : {M : Type 1} → statement M
 put-if-spec = tie.close (tie.spec (λ c κs. search needs) (λ c. search needs) returns (λ c. search needs))

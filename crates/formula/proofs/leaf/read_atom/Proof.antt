@@ -49,20 +49,20 @@ read-arguments-requires c κs = omega (arith, name-taken (c .before .before .bef
 sub-size : tie.Need-sub-size
 sub-size c = omega (arith, name-taken (c .before .before .before .before .before .before .before .before .before))
 
-cast-set-word : tie.Need-cast-set-word
-cast-set-word c = omega (arith, bounds (c .before))
+cast-set-number : tie.Need-cast-set-number
+cast-set-number c = omega (arith, bounds (c .before))
 
-mul-set-word : tie.Need-mul-set-word
-mul-set-word c = omega (arith, bounds (c .before))
+mul-set-number : tie.Need-mul-set-number
+mul-set-number c = omega (arith, bounds (c .before))
 
-add-set-word : tie.Need-add-set-word
-add-set-word c = omega (arith, bounds (c .before))
+add-set-number : tie.Need-add-set-number
+add-set-number c = omega (arith, bounds (c .before))
 
-mul-set-word-2 : tie.Need-mul-set-word-2
-mul-set-word-2 c = omega (arith, bounds (c .before))
+mul-set-number-2 : tie.Need-mul-set-number-2
+mul-set-number-2 c = omega (arith, bounds (c .before))
 
-add-set-word-2 : tie.Need-add-set-word-2
-add-set-word-2 c = omega (arith, bounds (c .before))
+add-set-number-2 : tie.Need-add-set-number-2
+add-set-number-2 c = omega (arith, bounds (c .before))
 
 add-t31 : tie.Need-add-t31
 add-t31 c = omega (arith, bounds (c .before .before .before .before))
@@ -72,7 +72,7 @@ returns c =
     let stored = c .before .before .before in
     let known = stored .before .before in
     let read = known .before .before in
-    rw (stored .set-word .ensures, c .atom-facts .ensures, known .find .ensures)
+    rw (stored .set-number .ensures, c .atom-facts .ensures, known .find .ensures)
     (atom-found _ _ _ _ _ (name-taken (read .before .before .before .before .before .before .before .before)) _ _ _ _ _ _ (domain-table _ _) (terms-found read))
 
 returns-2 : tie.Need-returns-2
@@ -101,11 +101,11 @@ read-atom-spec =
     (λ c. search needs)
     sub-size
     (λ c κs. search needs)
-    cast-set-word
-    mul-set-word
-    add-set-word
-    mul-set-word-2
-    add-set-word-2
+    cast-set-number
+    mul-set-number
+    add-set-number
+    mul-set-number-2
+    add-set-number-2
     (λ c κs. search needs)
     add-t31
     (λ c κs. search needs)

@@ -22,13 +22,13 @@ returns c =
 
 returns-2 : tie.Need-returns-2
 returns-2 c =
-    let set-word = c .before .before .before .set-word in
+    let set-number = c .before .before .before .set-number in
     let if1 = c .before .before .before .before .before .if1 in
     let next = c .before .before .before .before .before .before .before .next in
     let closed-terms = c .before .before .before .before .before .before .before .before .before .before .before .closed-terms in
     let a = c .before .before .before .before .before .before .before .before .before .before .before .before .before .before .before .before .args in
     λ P index d.
-    rw (set-word .ensures, c .simple-facts .ensures)
+    rw (set-number .ensures, c .simple-facts .ensures)
     (equality-found (a .text .now) (boundIn (a .text .now) (a .scope)) P index (a .domain) d (a .at) (memory (a .names .now) (a .work .now)) (a .to) _ _ _ _ _
     (terms-done (a .text .now) (a .domain) (boundIn (a .text .now) (a .scope)) (closedUpTo 1) (a .at) (memory (a .names .now) (a .work .now)) (a .to + 1) _ (closed-terms .result) (closed-terms .ensures) (next .given .0 .0) (next .given .0 .1 .0) (next .given .0 .1 .1 .0) (next .given .1))
     (if1 .left))

@@ -17,7 +17,7 @@ returns c =
     let stored = c .before .before .before in
     let first = stored .before .before in
     let start = first .before .before .before .before .before .before in
-    rw (stored .set-word .ensures, c .simple-facts .ensures)
+    rw (stored .set-number .ensures, c .simple-facts .ensures)
     (true-found _ _ (start .pre .0) _ _ _ (sym (first .before .begins-at .ensures) ∙ first .if1 .taken))
 
 returns-2 : tie.Need-returns-2
@@ -26,7 +26,7 @@ returns-2 c =
     let second = stored .before .before in
     let first = second .before .before .before in
     let start = first .before .before .before .before .before .before in
-    rw (stored .set-word2 .ensures, c .simple-facts2 .ensures)
+    rw (stored .set-number2 .ensures, c .simple-facts2 .ensures)
     (false-found _ _ (start .pre .0) _ _ _ (sym (first .before .begins-at .ensures) ∙ first .if1 .left) (sym (second .before .begins-at2 .ensures) ∙ second .if2 .taken))
 
 read-equality-requires : tie.Need-read-equality-requires

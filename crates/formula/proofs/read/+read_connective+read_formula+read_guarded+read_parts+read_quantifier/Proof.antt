@@ -57,7 +57,7 @@ use Rattle.formula.proofs.part_list.none_follow.Reads as none-follow-re
 use Rattle.formula.proofs.part_list.parts_close.Reads as parts-close-reads
 use Rattle.formula.proofs.read.parts_to.Reads as parts-to-reads
 use Rattle.formula.proofs.read.read_to.Reads as read-to-reads
-use Rattle.formula.proofs.store.set_word.Reads as set-word-reads
+use Rattle.text.proofs.cell.set_number.Reads as set-number-reads
 use Rattle.formula.proofs.term.variable_end.Reads as variable-end-reads
 use Rattle.text.proofs.byte.begins_at.Reads as begins-at-reads
 use Rattle.text.proofs.byte.peek.Reads as peek-reads
@@ -149,7 +149,7 @@ read-quantifier-below t =
 
 -- what read-connective is told of what it calls, at the measure t
 abbrev read-connective-calls : ℕ → read-connective-lts.Claims
-read-connective-calls t = (none-follow-reads.Asked, none-follow-reads.Learnt, connective-word-reads.Asked, connective-word-reads.Learnt, set-word-reads.Asked, set-word-reads.Learnt, simple-facts-reads.Asked, simple-facts-reads.Learnt, connective-facts-reads.Asked, connective-facts-reads.Learnt, read-to-reads.Asked, read-to-reads.Learnt, further-parts-reads.Asked, further-parts-reads.Learnt, read-parts-below t, read-parts.Post, parts-close-reads.Asked, parts-close-reads.Learnt, close-size-reads.Asked, close-size-reads.Learnt)
+read-connective-calls t = (none-follow-reads.Asked, none-follow-reads.Learnt, connective-word-reads.Asked, connective-word-reads.Learnt, set-number-reads.Asked, set-number-reads.Learnt, simple-facts-reads.Asked, simple-facts-reads.Learnt, connective-facts-reads.Asked, connective-facts-reads.Learnt, read-to-reads.Asked, read-to-reads.Learnt, further-parts-reads.Asked, further-parts-reads.Learnt, read-parts-below t, read-parts.Post, parts-close-reads.Asked, parts-close-reads.Learnt, close-size-reads.Asked, close-size-reads.Learnt)
 
 -- what read-formula is told of what it calls, at the measure t
 abbrev read-formula-calls : ℕ → read-formula-lts.Claims
@@ -165,7 +165,7 @@ read-parts-calls t = (simple-facts-reads.Asked, simple-facts-reads.Learnt, read-
 
 -- what read-quantifier is told of what it calls, at the measure t
 abbrev read-quantifier-calls : ℕ → read-quantifier-lts.Claims
-read-quantifier-calls t = (variable-end-reads.Asked, variable-end-reads.Learnt, peek-reads.Asked, peek-reads.Learnt, list-name-reads.Asked, list-name-reads.Learnt, with-binding-reads.Asked, with-binding-reads.Learnt, read-guarded-below t, read-guarded.Post, quantifier-word-reads.Asked, quantifier-word-reads.Learnt, set-word-reads.Asked, set-word-reads.Learnt, quantifier-facts-reads.Asked, quantifier-facts-reads.Learnt, read-to-reads.Asked, read-to-reads.Learnt)
+read-quantifier-calls t = (variable-end-reads.Asked, variable-end-reads.Learnt, peek-reads.Asked, peek-reads.Learnt, list-name-reads.Asked, list-name-reads.Learnt, with-binding-reads.Asked, with-binding-reads.Learnt, read-guarded-below t, read-guarded.Post, quantifier-word-reads.Asked, quantifier-word-reads.Learnt, set-number-reads.Asked, set-number-reads.Learnt, quantifier-facts-reads.Asked, quantifier-facts-reads.Learnt, read-to-reads.Asked, read-to-reads.Learnt)
 
 -- the parts that were read
 connective-parts-found : (t : ℕ) (c : read-connective-lts.After-next (read-connective-calls t) (read-connective-at t) read-connective.Post)
@@ -209,7 +209,7 @@ read-connective-returns t c =
     let stored = c .before .before .before .before .before in
     let none = stored .before .before .before in
     let a = none .before .before .before .before .before .args in
-    rw (c .read-to .ensures, stored .set-word .ensures, stored .before .connective-word .ensures, c .before .connective-facts .ensures, c .before .before .simple-facts .ensures)
+    rw (c .read-to .ensures, stored .set-number .ensures, stored .before .connective-word .ensures, c .before .connective-facts .ensures, c .before .before .simple-facts .ensures)
     (connective-none _ _ (connectiveOf (a .sign)) (a .at) (sym (none .before .none-follow .ensures) ∙ none .if1 .taken) _ _ _)
 
 read-connective-returns-2 : (t : ℕ) → read-connective-lts.Need-returns-2 (read-connective-calls t) (read-connective-at t) read-connective.Post
@@ -241,7 +241,7 @@ read-connective-returns-3 t c =
     let more = found .before .before .before .before .before .before .before in
     let some = more .before in
     let a = some .before .before .before .before .before .args in
-    rw (c .read-to2 .ensures, stored .set-word2 .ensures, stored .before .connective-word2 .ensures, c .before .connective-facts2 .ensures, c .before .before .close-size .ensures .0)
+    rw (c .read-to2 .ensures, stored .set-number2 .ensures, stored .before .connective-word2 .ensures, c .before .connective-facts2 .ensures, c .before .before .close-size .ensures .0)
     (connective-found _ _ (connectiveOf (a .sign)) _ (shrinks-formula _) (sym (some .before .none-follow .ensures) ∙ some .if1 .left) _ (more .further-parts .ensures) _ (a .to) _ _ _ _ _ _ (connective-parts-found t found) (sym (closed .before .parts-close .ensures) ∙ not-false _ (closed .if2 .left)))
 
 read-connective-returns-4 : (t : ℕ) → read-connective-lts.Need-returns-4 (read-connective-calls t) (read-connective-at t) read-connective.Post
@@ -535,7 +535,7 @@ read-quantifier-returns-2 t c =
     let bound = read .before .before .before .before .before .before .before in
     let listed = bound .before in
     let opened = listed .before .before in
-    rw (c .read-to .ensures, stored .set-word .ensures, stored .before .quantifier-word .ensures, c .before .quantifier-facts .ensures)
+    rw (c .read-to .ensures, stored .set-number .ensures, stored .before .quantifier-word .ensures, c .before .quantifier-facts .ensures)
     (quantifier-found _ _ _ _ _ (variable-taken t (opened .before .before .before)) (sym (opened .before .peek .ensures) ∙ opened .if1 .left) _ (bound .with-binding .ensures .is _) _ _ _ _ _ (listed .list-name .ensures) _ _ _ _ _ _ (quantified-found t read))
 
 read-quantifier-returns-3 : (t : ℕ) → read-quantifier-lts.Need-returns-3 (read-quantifier-calls t) (read-quantifier-at t) read-quantifier.Post

@@ -1,4 +1,4 @@
--- `store::put` stores a word by `set_word`, and counts it.
+-- `store::put` stores a word by `set_number`, and counts it.
 -- Assumes nothing.
 use borrow.Author.Needs.{needs}
 use mathlib.Core.Path.{refl}
@@ -6,7 +6,7 @@ use Rattle.formula.proofs.store.put.Statement.{statement}
 use Rattle.formula.proofs.store.put.Tie as tie
 
 returns : tie.Need-returns
-returns c = record { holds = c .before .before .set-word .ensures; ends = refl }
+returns c = record { holds = c .before .before .set-number .ensures; ends = refl }
 
 pub put-spec : {M : Type 1} → statement M
 put-spec = tie.close (tie.spec (λ c κs. search needs) (λ c. search needs) (λ c. search needs) returns)

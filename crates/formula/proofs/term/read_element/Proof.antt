@@ -8,15 +8,15 @@ use Rattle.formula.proofs.memory.TermReads.{element-found, element-larg
 use Rattle.formula.proofs.term.read_element.Statement.{statement}
 use Rattle.formula.proofs.term.read_element.Tie as tie
 
-mul-set-word : tie.Need-mul-set-word
-mul-set-word c =
+mul-set-number : tie.Need-mul-set-number
+mul-set-number c =
     let number-at = c .before .before .before .before .number-at in
     let start = c .before .before .before .before .before .before .before in
     let f = subst (ToldNumber (start .args .text .now) (start .args .at)) (c .before .before .next .given .1) (number-at .ensures) in
     omega (arith, f .small)
 
-add-set-word : tie.Need-add-set-word
-add-set-word c =
+add-set-number : tie.Need-add-set-number
+add-set-number c =
     let number-at = c .before .before .before .before .number-at in
     let start = c .before .before .before .before .before .before .before in
     let f = subst (ToldNumber (start .args .text .now) (start .args .at)) (c .before .before .next .given .1) (number-at .ensures) in
@@ -24,12 +24,12 @@ add-set-word c =
 
 returns : tie.Need-returns
 returns c =
-    let set-word = c .before .before .before .set-word in
+    let set-number = c .before .before .before .set-number in
     let next = c .before .before .before .before .before .before .next in
     let number-at = c .before .before .before .before .before .before .before .before .number-at in
     let a = c .before .before .before .before .before .before .before .before .before .before .before .args in
     λ bound names.
-    rw (set-word .ensures, c .is-element .ensures)
+    rw (set-number .ensures, c .is-element .ensures)
     (element-found (a .text .now) (a .domain) bound (a .at) names (a .work .now) (a .to) (next .given .0 .1 .0) (next .given .0 .0) (subst (ToldNumber (a .text .now) (a .at)) (next .given .1) (number-at .ensures)))
 
 returns-2 : tie.Need-returns-2
@@ -50,8 +50,8 @@ read-element-spec =
     (tie.spec
     (λ c κs. search needs)
     (λ c. search needs)
-    mul-set-word
-    add-set-word
+    mul-set-number
+    add-set-number
     (λ c κs. search needs)
     (λ c κs. search needs)
     (λ c. search needs)

@@ -24,21 +24,21 @@ list-name-requires c κs =
     let f = subst (ToldName readVariable (start .args .text .now) (start .args .at)) (c .before .before .next .given .1) (variable-end .ensures) in
     (omega arith, omega (arith, f .within))
 
-mul-set-word : tie.Need-mul-set-word
-mul-set-word c = omega (arith, c .before .list-name .ensures .small)
+mul-set-number : tie.Need-mul-set-number
+mul-set-number c = omega (arith, c .before .list-name .ensures .small)
 
-add-set-word : tie.Need-add-set-word
-add-set-word c = omega (arith, c .before .list-name .ensures .small)
+add-set-number : tie.Need-add-set-number
+add-set-number c = omega (arith, c .before .list-name .ensures .small)
 
 returns : tie.Need-returns
 returns c =
-    let set-word = c .before .before .before .set-word in
+    let set-number = c .before .before .before .set-number in
     let list-name = c .before .before .before .before .before .list-name in
     let next = c .before .before .before .before .before .before .before .before .next in
     let variable-end = c .before .before .before .before .before .before .before .before .before .before .variable-end in
     let a = c .before .before .before .before .before .before .before .before .before .before .before .before .before .args in
     λ n.
-    rw (set-word .ensures)
+    rw (set-number .ensures)
     (variable-entered (a .text .now) n (boundIn (a .text .now) (a .scope)) (a .at) (a .names .now) (a .work .now) (a .to) (next .given .0 .0) (list-name .result) _ (c .is-bound .result) (subst (ToldName readVariable (a .text .now) (a .at)) (next .given .1) (variable-end .ensures)) (list-name .ensures) (c .is-bound .ensures))
 
 returns-2 : tie.Need-returns-2
@@ -54,8 +54,8 @@ read-variable-spec =
     (λ c. search needs)
     sub-size
     list-name-requires
-    mul-set-word
-    add-set-word
+    mul-set-number
+    add-set-number
     (λ c κs. search needs)
     (λ c κs. search needs)
     (λ c. search needs)

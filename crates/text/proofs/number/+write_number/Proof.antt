@@ -10,7 +10,7 @@ use borrow.Fn.PlainCycle.{Measures, is, falls, and}
 use Rattle.text.proofs.number.write_number.Reads as write-number
 use Rattle.text.proofs.number.write_number.Kinds as write-number-kinds
 use Rattle.text.proofs.number.+write_number.Lts-write_number as write-number-lts
-use Rattle.text.proofs.number.put.Reads as put-reads
+use Rattle.text.proofs.cell.set_byte.Reads as set-byte-reads
 use Rattle.text.proofs.number.+write_number.{statement}
 use Rattle.text.proofs.number.+write_number.Tie.{close}
 
@@ -31,13 +31,13 @@ write-number-below t =
 
 -- what write-number is told of what it calls, at the measure t
 abbrev write-number-calls : ℕ → write-number-lts.Claims
-write-number-calls t = (put-reads.Asked, put-reads.Learnt, write-number-below t, write-number.Post)
+write-number-calls t = (set-byte-reads.Asked, set-byte-reads.Learnt, write-number-below t, write-number.Post)
 
 write-number-returns : (t : ℕ) → write-number-lts.Need-returns (write-number-calls t) (write-number-at t) write-number.Post
 write-number-returns t c =
     let if1 = c .before .before .before .before .if1 in
     let a = c .before .before .before .before .before .before .args in
-    (c .before .before .put .ensures ∙ write-one (a .n) (if1 .taken) (a .out .now) (a .at), length-one (a .n) (if1 .taken) (a .at))
+    (c .before .before .set-byte .ensures ∙ write-one (a .n) (if1 .taken) (a .out .now) (a .at), length-one (a .n) (if1 .taken) (a .at))
 
 write-number-add-result-2 : (t : ℕ) → write-number-lts.Need-add-result-2 (write-number-calls t) (write-number-at t) write-number.Post
 write-number-add-result-2 t c =
@@ -51,7 +51,7 @@ write-number-returns-2 t c =
     let if1 = c .before .before .before .before .before .before .before .before .if1 in
     let a = c .before .before .before .before .before .before .before .before .before .before .args in
     let e = write-number-told .ensures in
-    (write-more (a .n) (if1 .left) (a .out .now) (a .at) (e .0) (e .1) (c .before .before .put2 .ensures), rw (e .1) (length-more (a .n) (if1 .left) (a .at)))
+    (write-more (a .n) (if1 .left) (a .out .now) (a .at) (e .0) (e .1) (c .before .before .set-byte2 .ensures), rw (e .1) (length-more (a .n) (if1 .left) (a .at)))
 
 pub +write-number-spec : {M : Type 1} → statement M
 +write-number-spec = close μ-write-number λ t. write-number-lts.spec (write-number-calls t)

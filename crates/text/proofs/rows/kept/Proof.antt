@@ -45,8 +45,8 @@ returns-3 c =
     (rows-full (a .total) (a .arity) (a .to) (a .rows .now) (a .rows .now) (start .pre .1) (before2 .given .0 .0) (before2 .given .0 .1 .0)
     (row .given .0 .0) (row .given .0 .1 .0) (row .given .0 .1 .1 .0) (c .before .before .if1 .left) (c .if3 .taken))
 
-add-put : tie.Need-add-put
-add-put c =
+add-set-number : tie.Need-add-set-number
+add-set-number c =
     let before2 = c .before .before .before .before .before .before .before .before .before2 in
     let start = c .before .before .before .before .before .before .before .before .before .before .before in
     let b = subst RowsBounded (before2 .given .1) (start .pre .0) in
@@ -74,7 +74,7 @@ returns-5 c =
 
 returns-6 : tie.Need-returns-6
 returns-6 c =
-    let put = c .before .before .put in
+    let stored = c .before .before .set-number in
     let if3 = c .before .before .before .before .if3 in
     let if2 = c .before .before .before .before .before .if2 in
     let if1 = c .before .before .before .before .before .before .if1 in
@@ -83,8 +83,8 @@ returns-6 c =
     let start = c .before .before .before .before .before .before .before .before .before .before .before .before .before .before in
     let a = start .args in
     rw (before2 .given .1, row .given .1)
-    (rows-more (a .total) (a .arity) (a .to) (a .rows .now) (put .last .0) (start .pre .1) (before2 .given .0 .0) (before2 .given .0 .1 .0)
-    (row .given .0 .0) (row .given .0 .1 .0) (row .given .0 .1 .1 .0) (if1 .left) (if2 .left) (if3 .left) (put .ensures))
+    (rows-more (a .total) (a .arity) (a .to) (a .rows .now) (stored .last .0) (start .pre .1) (before2 .given .0 .0) (before2 .given .0 .1 .0)
+    (row .given .0 .0) (row .given .0 .1 .0) (row .given .0 .1 .1 .0) (if1 .left) (if2 .left) (if3 .left) (stored .ensures))
 
 pub kept-spec : {M : Type 1} → statement M
 kept-spec =
@@ -99,7 +99,7 @@ kept-spec =
     add-if3
     returns-3
     (λ c. search needs)
-    add-put
+    add-set-number
     (λ c κs. search needs)
     add-t15
     returns-4

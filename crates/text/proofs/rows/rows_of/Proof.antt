@@ -13,12 +13,12 @@ returns c =
 
 returns-2 : tie.Need-returns-2
 returns-2 c =
-    let put = c .before .before .put in
+    let stored = c .before .before .set-number in
     let if2 = c .before .before .before .before .if2 in
     let if1 = c .before .before .before .before .before .if1 in
     let relation = c .before .before .before .before .before .before .before .relation in
     let a = c .before .before .before .before .before .before .before .before .before .before .args in
-    rw (relation .given .1, if2 .taken) (given-true (a .arity) (a .to) (a .rows .now) (relation .given .0 .0) (put .last .0) (if1 .left) (put .ensures))
+    rw (relation .given .1, if2 .taken) (given-true (a .arity) (a .to) (a .rows .now) (relation .given .0 .0) (stored .last .0) (if1 .left) (stored .ensures))
 
 returns-3 : tie.Need-returns-3
 returns-3 c =
