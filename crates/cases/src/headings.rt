@@ -1,6 +1,6 @@
 // The beginning of a derivation: the size of its heading, or 10 and the line that is malformed.
 use crate::say;
-use text::rule_line::Ended;
+use text::byte::Ended;
 use text::rule_line::grounder_end;
 use text::rule_line::version_end;
 ghost use Prim.Native.Nat.{_≤_};

@@ -6,11 +6,11 @@ use crate::fact::simple_facts;
 use crate::read::Read;
 use crate::signature::is_declared;
 use crate::signature::is_input;
-use crate::term::Behind;
 use crate::term::TermsRead;
 use crate::term::closed_terms;
 use crate::term::predicate_end;
 use crate::term::read_arguments;
+use text::byte::Ended;
 use text::byte::begins_at;
 use text::cell::set_number;
 use text::name::part;
@@ -87,7 +87,7 @@ fn read_atom(
     ensures { λ r. ⌜ Told readAtom (settingOf (now (text .entry)) scope (now (problem .entry)) table) at (memory (now (names .entry)) (now (work .entry))) to r (memory (now (names .exit)) (now (work .exit))) ⌝ }
 {
     match predicate_end(text, at) {
-        Behind::At(end) => match read_arguments(
+        Ended::At(end) => match read_arguments(
             text,
             end,
             scope,
@@ -108,7 +108,7 @@ fn read_atom(
             }
             TermsRead::Malformed => Read::Malformed,
         },
-        Behind::Malformed => Read::Malformed,
+        Ended::Malformed => Read::Malformed,
     }
 }
 

@@ -18,9 +18,9 @@ use crate::part_list::close_size;
 use crate::part_list::further_parts;
 use crate::part_list::none_follow;
 use crate::part_list::parts_close;
-use crate::term::Behind;
 use crate::term::variable_end;
 use crate::word::Sign;
+use text::byte::Ended;
 use text::byte::begins_at;
 use text::byte::peek;
 use text::cell::set_number;
@@ -265,7 +265,7 @@ fn read_quantifier(
     ensures { λ r. ⌜ ToldBehind (readQuantifier (readFormula levels) (sideOf every)) (settingOf (now (text .entry)) scope (now (problem .entry)) table) at (memory (now (names .entry)) (now (work .entry))) to r (memory (now (names .exit)) (now (work .exit))) ⌝ }
 {
     match variable_end(text, at) {
-        Behind::At(end) => {
+        Ended::At(end) => {
             if peek(text, end) != b'[' {
                 return Read::Malformed;
             }
@@ -295,7 +295,7 @@ fn read_quantifier(
                 GuardedRead::Deep => Read::Deep,
             }
         }
-        Behind::Malformed => Read::Malformed,
+        Ended::Malformed => Read::Malformed,
     }
 }
 

@@ -4,6 +4,7 @@ use crate::binding::is_bound;
 use crate::fact::both;
 use crate::name_table::list_name;
 use text::byte::Class;
+use text::byte::Ended;
 use text::byte::is_capital;
 use text::byte::is_digit;
 use text::byte::is_small;
@@ -26,12 +27,6 @@ ghost use Rattle.formula.specs.memory.Bindings.{boundIn};
 ghost use Rattle.formula.specs.memory.Entries.{memory};
 ghost use Rattle.formula.specs.memory.Lists.{upTo};
 ghost use Rattle.formula.specs.memory.TermReads.{ToldName, readElement, readVariableTerm, ToldTerm, closedUpTo, readTermList, ToldTerms};
-
-// The place behind a word, if it is well spelled.
-pub enum Behind {
-    At(usize),
-    Malformed,
-}
 
 // The place behind a term, and whether it is an element of the domain or a bound variable; or that it is malformed.
 pub enum TermRead {
@@ -59,29 +54,29 @@ fn is_truth(name: &[u8]) -> bool
 }
 
 // The variable at a place.
-pub fn variable_end(text: &[u8], at: usize) -> Behind
+pub fn variable_end(text: &[u8], at: usize) -> Ended
     requires { ⌜ at ≤ length (now text) ⌝ }
     ensures { λ r. ⌜ ToldName readVariable (now (text .entry)) at r ⌝ }
 {
     if !is_small(peek(text, at)) {
-        return Behind::Malformed;
+        return Ended::Malformed;
     }
     let end = run_end(text, at, Class::SmallOrDigit);
     if is_truth(part(text, at, end - at)) {
-        return Behind::Malformed;
+        return Ended::Malformed;
     }
-    Behind::At(end)
+    Ended::At(end)
 }
 
 // The predicate's name at a place.
-pub fn predicate_end(text: &[u8], at: usize) -> Behind
+pub fn predicate_end(text: &[u8], at: usize) -> Ended
     requires { ⌜ at ≤ length (now text) ⌝ }
     ensures { λ r. ⌜ ToldName (readName 5) (now (text .entry)) at r ⌝ }
 {
     if !is_capital(peek(text, at)) {
-        return Behind::Malformed;
+        return Ended::Malformed;
     }
-    Behind::At(run_end(text, at, Class::LetterOrDigit))
+    Ended::At(run_end(text, at, Class::LetterOrDigit))
 }
 
 fn is_element(domain: u32, value: u32) -> bool
@@ -122,7 +117,7 @@ fn read_variable(
     ensures { λ r. ⌜ ((n : ℕ) → ToldTerm (now (text .entry)) n (boundIn (now (text .entry)) scope) readVariableTerm at (memory (now (names .entry)) (now (work .entry))) to r (memory (now (names .exit)) (now (work .exit)))) ⌝ }
 {
     match variable_end(text, at) {
-        Behind::At(next) => {
+        Ended::At(next) => {
             let size = next - at;
             let index = list_name(text, names, at, size);
             set_number(work, to, index * 16 + 13);
@@ -131,7 +126,7 @@ fn read_variable(
                 named: is_bound(text, scope, at, size),
             }
         }
-        Behind::Malformed => TermRead::Malformed,
+        Ended::Malformed => TermRead::Malformed,
     }
 }
 

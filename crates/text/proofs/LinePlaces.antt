@@ -22,8 +22,8 @@ use Rattle.text.specs.memory.Found.{Found, Taken, Refused, WordFound}
 use Rattle.text.specs.memory.Numbers.{beyond, numbersAt, NumberFound, SmallFound, LargeFound, ToldNumber}
 use Rattle.text.specs.memory.RuleLines.{positionAt, readFinalNames, ToldWord, ToldEnd, RangedFound, NumbersFound, ToldNumbers, PositionFound, Behind, ToldKind, ToldLine}
 use Rattle.text.specs.declared.number.Number.the-variants as number
-use Rattle.text.specs.declared.rule_line.Ended.{Ended}
-use Rattle.text.specs.declared.rule_line.Ended.the-variants as ended
+use Rattle.text.specs.declared.byte.Ended.{Ended}
+use Rattle.text.specs.declared.byte.Ended.the-variants as ended
 use Rattle.text.specs.declared.rule_line.NumbersRead.{NumbersRead}
 use Rattle.text.specs.declared.rule_line.NumbersRead.the-variants as numbers-read
 use Rattle.text.specs.declared.rule_line.LineKind.the-variants as kind

@@ -13,6 +13,12 @@ pub enum Class {
     Printable,
 }
 
+// The place after something that is asked for, if it stands there.
+pub enum Ended {
+    At(usize),
+    Malformed,
+}
+
 // The byte at a place; 0 at the end.
 pub fn peek(text: &[u8], at: usize) -> u8
     ensures { λ r. ⌜ r ≡ next (drop at (now (text .entry))) ⌝ }

@@ -1,5 +1,6 @@
 // Derivation lines: the heading, rule lines and the footer.
 use crate::byte::Class;
+use crate::byte::Ended;
 use crate::byte::begins_at;
 use crate::byte::peek;
 use crate::byte::run_end;
@@ -57,12 +58,6 @@ pub enum LineRead {
         many: usize,
         next: usize,
     },
-    Malformed,
-}
-
-// The place after something.
-pub enum Ended {
-    At(usize),
     Malformed,
 }
 

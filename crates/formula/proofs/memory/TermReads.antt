@@ -26,8 +26,8 @@ use Rattle.logic.specs.Reading.{readVariable, readTerm}
 use Rattle.logic.specs.Names.{termKnown, termsKnown, termClosed, termsClosed}
 use Rattle.logic.specs.Limits.{termVariables, termsVariables}
 use Rattle.formula.specs.memory.Words.{termWord, termWords}
-use Rattle.formula.specs.declared.term.Behind.{Behind}
-use Rattle.formula.specs.declared.term.Behind.the-variants as behind
+use Rattle.text.specs.declared.byte.Ended.{Ended}
+use Rattle.text.specs.declared.byte.Ended.the-variants as ended
 use Rattle.formula.specs.declared.term.TermRead.{TermRead}
 use Rattle.formula.specs.declared.term.TermRead.the-variants as told
 use Rattle.formula.specs.declared.term.TermsRead.{TermsRead}
@@ -130,11 +130,11 @@ module _ (text : Bytes) (at : ℕ) where
         let some = some-span isSmallOrDigit isSmall refl (drop at text) first in
         record { is = token-found isSmallOrDigit text at end ends isVariable (spelled false f); after = omega arith; within = within }
 
-module _ (reader : Reading Name) (text : Bytes) (at : ℕ) (r : Behind) (t : ToldName reader text at r) where
-  pub word-done : (after : ℕ) → r ≡ behind.At after → NameTaken reader text at after
+module _ (reader : Reading Name) (text : Bytes) (at : ℕ) (r : Ended) (t : ToldName reader text at r) where
+  pub word-done : (after : ℕ) → r ≡ ended.At after → NameTaken reader text at after
   word-done after e = subst (ToldName reader text at) e t
 
-  pub word-malformed : r ≡ behind.Malformed → reader (drop at text) ≡ refused 5
+  pub word-malformed : r ≡ ended.Malformed → reader (drop at text) ≡ refused 5
   word-malformed e = subst (ToldName reader text at) e t
 
 -- Terms.

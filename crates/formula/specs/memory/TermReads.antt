@@ -17,8 +17,8 @@ use Rattle.logic.specs.Limits.{termVariables, termsVariables}
 use Rattle.formula.specs.memory.Words.{termWord, termWords}
 use Rattle.formula.specs.memory.Lists.{upTo}
 use Rattle.formula.specs.memory.Entries.{Memory, Entered}
-use Rattle.formula.specs.declared.term.Behind.{Behind}
-use Rattle.formula.specs.declared.term.Behind.the-variants as behind
+use Rattle.text.specs.declared.byte.Ended.{Ended}
+use Rattle.text.specs.declared.byte.Ended.the-variants as ended
 use Rattle.formula.specs.declared.term.TermRead.{TermRead}
 use Rattle.formula.specs.declared.term.TermRead.the-variants as term
 use Rattle.formula.specs.declared.term.TermsRead.{TermsRead}
@@ -28,9 +28,9 @@ use Rattle.formula.specs.declared.term.TermsRead.the-variants as terms
 abbrev pub NameTaken : Reading Name → Bytes → ℕ → ℕ → Type 0
 NameTaken reader text at next = Taken reader text at (take (next - at) (drop at text)) next
 
-abbrev pub ToldName : Reading Name → Bytes → ℕ → Behind → Type 0
-ToldName reader text at (behind.At next) = NameTaken reader text at next
-ToldName reader text at behind.Malformed = reader (drop at text) ≡ refused 5
+abbrev pub ToldName : Reading Name → Bytes → ℕ → Ended → Type 0
+ToldName reader text at (ended.At next) = NameTaken reader text at next
+ToldName reader text at ended.Malformed = reader (drop at text) ≡ refused 5
 
 unfoldable pub readElement : Reading Term
 readElement = do

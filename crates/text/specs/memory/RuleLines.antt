@@ -13,8 +13,8 @@ use Rattle.text.specs.memory.Found.{Found, Taken, Refused, WordFound}
 use Rattle.text.specs.memory.Numbers.{numberAt, numberEnd, numbersAt}
 use Rattle.text.specs.declared.rule_line.Rule.{Rule as RuleName}
 use Rattle.text.specs.declared.rule_line.Rule.the-variants.{Snand, Snor, Stn, Epred, Eprop, Iq}
-use Rattle.text.specs.declared.rule_line.Ended.{Ended}
-use Rattle.text.specs.declared.rule_line.Ended.the-variants as ended
+use Rattle.text.specs.declared.byte.Ended.{Ended}
+use Rattle.text.specs.declared.byte.Ended.the-variants as ended
 use Rattle.text.specs.declared.rule_line.RangedRead.{RangedRead}
 use Rattle.text.specs.declared.rule_line.RangedRead.the-variants as ranged
 use Rattle.text.specs.declared.rule_line.NumbersRead.{NumbersRead}
