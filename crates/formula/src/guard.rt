@@ -1,4 +1,5 @@
 // Guards: the value of the formula at a place, in the input structure. Parts are taken from the left until one settles the value.
+use crate::tag::ELEMENT;
 use crate::walk::past;
 use crate::word::Kind;
 use crate::word::Sign;
@@ -27,7 +28,7 @@ fn value_of(word: u32, values: [u8; 64]) -> u32
     ensures { λ r. ⌜ (r ≡ valueOf (valued values) (termOf indexName word)) × (r < 256) ⌝ }
 {
     let payload = word / 16;
-    if word % 16 == 12 {
+    if word % 16 == ELEMENT {
         return payload % 256;
     }
     let x = (payload % 64) as usize;

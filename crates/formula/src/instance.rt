@@ -2,6 +2,10 @@
 use crate::head::junction_word;
 use crate::store::copy;
 use crate::store::put;
+use crate::tag::ELEMENT;
+use crate::tag::EVERY;
+use crate::tag::SOME;
+use crate::tag::VARIABLE;
 use crate::walk::past;
 use crate::word::parts_of;
 ghost use mathlib.Core.Path.{_≡_};
@@ -21,8 +25,8 @@ fn word_with(x: u32, v: u32, held: usize, word: u32) -> u32
     if held > 0 {
         return word;
     }
-    if word == x * 16 + 13 {
-        return v * 16 + 12;
+    if word == x * 16 + VARIABLE {
+        return v * 16 + ELEMENT;
     }
     word
 }
@@ -35,10 +39,10 @@ fn held_after(x: u32, held: usize, word: u32) -> usize
     if held > 0 {
         return held - 1 + parts_of(word);
     }
-    if word == x * 16 + 8 {
+    if word == x * 16 + EVERY {
         return 2;
     }
-    if word == x * 16 + 9 {
+    if word == x * 16 + SOME {
         return 2;
     }
     0
@@ -132,7 +136,7 @@ fn store_instantiated(
     let word = work[at];
     let body = past(&work[..end], at + 1, 1);
     let count = set_count(flags, domain);
-    let next = put(work, to, junction_word(word % 16 == 8, count));
+    let next = put(work, to, junction_word(word % 16 == EVERY, count));
     instances(work, body, end, word / 16, flags, domain, next)
 }
 

@@ -6,6 +6,10 @@ use crate::fact::simple_facts;
 use crate::read::Read;
 use crate::signature::is_declared;
 use crate::signature::is_input;
+use crate::tag::ATOM;
+use crate::tag::EQUALITY;
+use crate::tag::FALSE;
+use crate::tag::TRUE;
 use crate::term::TermsRead;
 use crate::term::closed_terms;
 use crate::term::predicate_end;
@@ -46,7 +50,7 @@ fn read_equality(
             if count != 2 {
                 return Read::Malformed;
             }
-            set_number(work, to, 11);
+            set_number(work, to, EQUALITY);
             Read::Done {
                 next,
                 size: 3,
@@ -99,7 +103,7 @@ fn read_atom(
             TermsRead::Done { next, count, named } => {
                 let size = end - at;
                 let index = find(problem, table, text, at, size);
-                set_number(work, to, (count as u32 * 256 + index) * 16 + 10);
+                set_number(work, to, (count as u32 * 256 + index) * 16 + ATOM);
                 Read::Done {
                     next,
                     size: count + 1,
@@ -127,7 +131,7 @@ pub fn read_leaf(
     ensures { λ r. ⌜ Told readLeaf (settingOf (now (text .entry)) scope (now (problem .entry)) table) at (memory (now (names .entry)) (now (work .entry))) to r (memory (now (names .exit)) (now (work .exit))) ⌝ }
 {
     if begins_at(text, at, b"true") {
-        set_number(work, to, 1);
+        set_number(work, to, TRUE);
         return Read::Done {
             next: at + 4,
             size: 1,
@@ -135,7 +139,7 @@ pub fn read_leaf(
         };
     }
     if begins_at(text, at, b"false") {
-        set_number(work, to, 0);
+        set_number(work, to, FALSE);
         return Read::Done {
             next: at + 5,
             size: 1,

@@ -19,6 +19,7 @@ pub mod scope;
 pub mod signature;
 pub mod simplify;
 pub mod store;
+pub mod tag;
 pub mod term;
 pub mod theory_line;
 pub mod walk;

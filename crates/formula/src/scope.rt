@@ -1,4 +1,5 @@
 // Whether every variable is bound, but for those of some flags.
+use crate::tag::ELEMENT;
 use crate::walk::past;
 use crate::word::Kind;
 use crate::word::kind_of;
@@ -24,7 +25,7 @@ pub fn with_flag(flags: [bool; 64], variable: u32) -> [bool; 64]
 fn term_closed(word: u32, flags: [bool; 64]) -> bool
     ensures { λ r. ⌜ r ≡ termClosed (flagged flags) (termOf indexName word) ⌝ }
 {
-    if word % 16 == 12 {
+    if word % 16 == ELEMENT {
         return true;
     }
     let x = (word / 16 % 64) as usize;

@@ -3,6 +3,8 @@ use crate::binding::Scope;
 use crate::binding::is_bound;
 use crate::fact::both;
 use crate::name_table::list_name;
+use crate::tag::ELEMENT;
+use crate::tag::VARIABLE;
 use text::byte::Class;
 use text::byte::Ended;
 use text::byte::is_capital;
@@ -94,7 +96,7 @@ fn read_element(text: &[u8], at: usize, domain: u32, work: &mut [u32], to: usize
 {
     match number_at(text, at) {
         Number::Value { next, value } => {
-            set_number(work, to, value * 16 + 12);
+            set_number(work, to, value * 16 + ELEMENT);
             TermRead::Done {
                 next,
                 named: is_element(domain, value),
@@ -120,7 +122,7 @@ fn read_variable(
         Ended::At(next) => {
             let size = next - at;
             let index = list_name(text, names, at, size);
-            set_number(work, to, index * 16 + 13);
+            set_number(work, to, index * 16 + VARIABLE);
             TermRead::Done {
                 next,
                 named: is_bound(text, scope, at, size),

@@ -1,4 +1,17 @@
 // Words of memory: a formula is one word for each unit of its size, each formula before its parts.
+use crate::tag::ATOM;
+use crate::tag::CONJUNCTION;
+use crate::tag::DISJUNCTION;
+use crate::tag::ELEMENT;
+use crate::tag::EQUALITY;
+use crate::tag::EQUIVALENT;
+use crate::tag::EVERY;
+use crate::tag::FALSE;
+use crate::tag::IMPLIED_BY;
+use crate::tag::IMPLIES;
+use crate::tag::NEGATION;
+use crate::tag::SOME;
+use crate::tag::TRUE;
 ghost use mathlib.Core.Path.{_≡_};
 ghost use Prim.Native.Nat.{_≤_, _<_};
 ghost use lib.ListN.{getD, drop};
@@ -29,45 +42,45 @@ pub fn kind_of(word: u32) -> Kind
 {
     let payload = word / 16;
     match word % 16 {
-        0 => Kind::Truth(false),
-        1 => Kind::Truth(true),
-        2 => Kind::Connective {
+        FALSE => Kind::Truth(false),
+        TRUE => Kind::Truth(true),
+        NEGATION => Kind::Connective {
             sign: Sign::Negation,
             parts: payload,
         },
-        3 => Kind::Connective {
+        CONJUNCTION => Kind::Connective {
             sign: Sign::Junction { every: true },
             parts: payload,
         },
-        4 => Kind::Connective {
+        DISJUNCTION => Kind::Connective {
             sign: Sign::Junction { every: false },
             parts: payload,
         },
-        5 => Kind::Connective {
+        IMPLIES => Kind::Connective {
             sign: Sign::Implies,
             parts: payload,
         },
-        6 => Kind::Connective {
+        IMPLIED_BY => Kind::Connective {
             sign: Sign::ImpliedBy,
             parts: payload,
         },
-        7 => Kind::Connective {
+        EQUIVALENT => Kind::Connective {
             sign: Sign::Equivalent,
             parts: payload,
         },
-        8 => Kind::Quantifier {
+        EVERY => Kind::Quantifier {
             every: true,
             variable: payload,
         },
-        9 => Kind::Quantifier {
+        SOME => Kind::Quantifier {
             every: false,
             variable: payload,
         },
-        10 => Kind::Atom {
+        ATOM => Kind::Atom {
             predicate: payload % 256,
             terms: payload / 256,
         },
-        11 => Kind::Equality,
+        EQUALITY => Kind::Equality,
         _ => Kind::Term,
     }
 }
@@ -114,7 +127,7 @@ pub fn are_elements(work: &[u32], at: usize, count: u32) -> bool
     let mut i = at;
     let mut pending = count;
     while pending > 0 {
-        if peek(work, i) % 16 != 12 {
+        if peek(work, i) % 16 != ELEMENT {
             return false;
         }
         i += 1;
