@@ -15,6 +15,7 @@ use crate::tag::TRUE;
 ghost use mathlib.Core.Path.{_≡_};
 ghost use Prim.Native.Nat.{_≤_, _<_};
 ghost use lib.ListN.{getD, drop};
+ghost use Rattle.formula.specs.declared.word.Kind.the-variants.{Connective};
 ghost use Rattle.formula.specs.memory.Kinds.{kindOf, partCount, elementsAt};
 
 // Which connective.
@@ -37,6 +38,12 @@ pub enum Kind {
     Term,
 }
 
+fn connective(sign: Sign, parts: u32) -> Kind
+    ensures { λ r. ⌜ r ≡ Connective sign parts ⌝ }
+{
+    Kind::Connective { sign, parts }
+}
+
 pub fn kind_of(word: u32) -> Kind
     ensures { λ r. ⌜ r ≡ kindOf word ⌝ }
 {
@@ -44,30 +51,12 @@ pub fn kind_of(word: u32) -> Kind
     match word % 16 {
         FALSE => Kind::Truth(false),
         TRUE => Kind::Truth(true),
-        NEGATION => Kind::Connective {
-            sign: Sign::Negation,
-            parts: payload,
-        },
-        CONJUNCTION => Kind::Connective {
-            sign: Sign::Junction { every: true },
-            parts: payload,
-        },
-        DISJUNCTION => Kind::Connective {
-            sign: Sign::Junction { every: false },
-            parts: payload,
-        },
-        IMPLIES => Kind::Connective {
-            sign: Sign::Implies,
-            parts: payload,
-        },
-        IMPLIED_BY => Kind::Connective {
-            sign: Sign::ImpliedBy,
-            parts: payload,
-        },
-        EQUIVALENT => Kind::Connective {
-            sign: Sign::Equivalent,
-            parts: payload,
-        },
+        NEGATION => connective(Sign::Negation, payload),
+        CONJUNCTION => connective(Sign::Junction { every: true }, payload),
+        DISJUNCTION => connective(Sign::Junction { every: false }, payload),
+        IMPLIES => connective(Sign::Implies, payload),
+        IMPLIED_BY => connective(Sign::ImpliedBy, payload),
+        EQUIVALENT => connective(Sign::Equivalent, payload),
         EVERY => Kind::Quantifier {
             every: true,
             variable: payload,
