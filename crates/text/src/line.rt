@@ -1,7 +1,7 @@
 // Lines: where one ends, where one begins, and the refused line.
 ghost use mathlib.Core.Path.{_≡_};
 ghost use Prim.Native.Nat.{_+_, _≤_};
-ghost use lib.ListN.{length, take, drop};
+ghost use lib.ListN.{length, drop};
 ghost use mathlib.Core.Bool.{cond};
 ghost use Rattle.text.specs.Lines.{isLF, lineSize, lineStart, refusedLine};
 
