@@ -7,10 +7,12 @@ use mathlib.Core.List.{List, []}
 use mathlib.Core.Bool.{Bool, true, false, false≢true}
 use borrow.Author.Tests.{le-leb, lt-leb}
 use lib.ListN.{length, getD, take, drop, drop-of-length-le, List·getD-eq-default}
-use Rattle.text.specs.Outcome.{Outcome, done, refused}
+use Rattle.text.specs.Outcome.{Outcome, done, refused, provided, _>>_}
+use Rattle.text.specs.Derivation.{Position}
 use Rattle.text.specs.declared.table.Table.{Table}
 use Rattle.text.specs.declared.rule_line.Rule.{Rule}
 use Rattle.text.specs.declared.rule_line.Rule.the-variants.{Snand, Snor, Stn, Epred, Eprop, Iq}
+use Rattle.text.proofs.Outcome.{allowed-done, allowed-bind, allowed-provided, allowed-any}
 use Rattle.formula.specs.memory.Kinds.{kindOf}
 use Rattle.formula.specs.memory.Deciding.{junctionFit, negationFit, quantifierFit, evaluationFit, ruleFit}
 use Rattle.formula.specs.declared.word.Kind.{Kind}
@@ -20,7 +22,7 @@ use Rattle.formula.specs.memory.Rewriting.{endWithin, rewrittenWords}
 use Rattle.formula.specs.memory.Admitted.{admittedFlags}
 use Rattle.formula.specs.declared.decide.Fit.{Fit}
 use Rattle.formula.specs.declared.decide.Fit.the-variants as fit
-use Rattle.replay.specs.memory.Held.{Held, held, exchanged, misfit, unlessRefused, sizedIn, madeIn}
+use Rattle.replay.specs.memory.Held.{Held, held, wholeIn, isValue, valueIn, exchanged, misfit, unlessRefused, sizedIn, madeIn}
 use Rattle.replay.specs.memory.Steps.{Flagged}
 
 -- Where no word stands, no rule fits.
@@ -43,6 +45,15 @@ pub word-here : (test : Kind → Bool) → test (kind.Truth false) ≡ false →
 word-here test low words at e =
     let inside : length words ≤ at → ⊥ = λ h. false≢true (sym low ∙ ap test (sym (kind-truth false)) ∙ ap (λ (k : ℕ). test (kindOf k)) (sym (List·getD-eq-default words 0 h)) ∙ e) in
     omega arith
+
+-- a formula that is that truth value
+pub value-told : (b : Bool) (m : Held) (p : Position) (t : ℕ × ℕ) → valueIn b m p ≡ done t → isValue b (kindOf (getD (m .words) (t .1) 0)) ≡ true
+unfolding valueIn
+value-told b m p t =
+    let value : ℕ × ℕ → Bool = λ s. isValue b (kindOf (getD (m .words) (s .1) 0)) in
+    let Told : ℕ × ℕ → Type 0 = λ s. value s ≡ true in
+    allowed-done Told (valueIn b m p) t
+    (allowed-bind (λ s. Unit {0}) Told (λ s. provided (value s) 13 >> done s) (λ s u. allowed-bind _ Told (λ v. done s) (λ v e. e) (provided (value s) 13) (allowed-provided (value s) 13)) (wholeIn m p) (allowed-any (wholeIn m p)))
 
 -- A decision.
 module _ (table : Table) (rows : List ℕ) (rule : Rule) (m : Held) (at : ℕ) where

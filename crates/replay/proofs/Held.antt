@@ -37,7 +37,7 @@ use Rattle.formula.proofs.memory.Kept.{rule-storable}
 use Rattle.replay.specs.Theory.{entry, Theory, formulasOf, namesOf, numbered, State, live, ended, liveTheory, greatestUsed, initial}
 use Rattle.replay.specs.Theory.{unlessEnded, removed, refuted, split, climbing, highest, within, stepped}
 use Rattle.replay.specs.Steps.{Step, go, stop}
-use Rattle.replay.specs.memory.Held.{held, rewrittenIn, openedIn, removedIn, isSplit, splitIn, refutedIn}
+use Rattle.replay.specs.memory.Held.{held, rewrittenIn, openedIn, valueIn, removedIn, isSplit, splitIn, refutedIn}
 use Rattle.replay.proofs.Theory.{EachPart, each-at, names-append}
 use Rattle.replay.proofs.Steps.{stepped-step}
 use Rattle.replay.proofs.Soundness.{Live, steps-every}
@@ -144,7 +144,7 @@ module _ (N : Naming) (text : Bytes) (table : Table) (rows : List ℕ) (inside :
 
   module _ (s : State) (sound : Sound s) (p : Position) where
     removed-entire : (l : Located (p .name) (liveTheory s)) (b : Bool) → isTruth true (l .formula) ≡ b
-        → (provided b 13 >> openedIn (heldOf N s) (length (l .before), length (liveWords N (l .before))) [] (greatestUsed s))
+        → ((provided b 13 >> done (length (l .before), length (liveWords N (l .before)))) >>= λ t. openedIn (heldOf N s) t [] (greatestUsed s))
         ≡ mapped (heldOf N) (mapped (λ ts. l .before ++ (ts ++ l .after)) (mapped (λ u. []) (provided b 13)) >>= within (greatestUsed s))
     unfolding words
     removed-entire l true h =
@@ -154,7 +154,7 @@ module _ (N : Naming) (text : Bytes) (table : Table) (rows : List ℕ) (inside :
     removed-entire l false h = refl
 
     pub removed-held : removedIn (heldOf N s) p ≡ mapped (heldOf N) (stepped P s (trivial p))
-    unfolding removedIn stepped
+    unfolding removedIn valueIn stepped
     removed-held = pick (aimed-whole N s p)
       where
         pick : Whole N s p → removedIn (heldOf N s) p ≡ mapped (heldOf N) (stepped P s (trivial p))
@@ -163,7 +163,8 @@ module _ (N : Naming) (text : Bytes) (table : Table) (rows : List ℕ) (inside :
             rw (e, r removed, located-word N l, truth-told N true (l .formula) (liveWords N (l .after))) (removed-entire l (isTruth true (l .formula)) refl)
 
     refuted-entire : (l : Located (p .name) (liveTheory s)) (b : Bool)
-        → (provided {E = ℕ} b 13 >> done (held (0 ∷ []) (p .name ∷ []) (greatestUsed s) true))
+        → let place : ℕ × ℕ = (length (l .before), length (liveWords N (l .before))) in
+        ((provided {E = ℕ} b 13 >> done place) >>= λ t. done (held (0 ∷ []) (p .name ∷ []) (greatestUsed s) true))
         ≡ mapped (heldOf N)
         (mapped (λ ts. l .before ++ (ts ++ l .after)) (mapped (λ u. []) (provided b 13)) >>= λ t. done (ended (p .name) (greatestUsed s)))
     unfolding words
@@ -171,7 +172,7 @@ module _ (N : Naming) (text : Bytes) (table : Table) (rows : List ℕ) (inside :
     refuted-entire l false = refl
 
     pub refuted-held : refutedIn (heldOf N s) p ≡ mapped (heldOf N) (stepped P s (unsat p))
-    unfolding refutedIn stepped
+    unfolding refutedIn valueIn stepped
     refuted-held = pick (aimed-whole N s p)
       where
         pick : Whole N s p → refutedIn (heldOf N s) p ≡ mapped (heldOf N) (stepped P s (unsat p))

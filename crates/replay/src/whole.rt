@@ -16,14 +16,14 @@ ghost use mathlib.Core.Path.{_≡_};
 ghost use mathlib.Core.List.{[], _∷_};
 ghost use mathlib.Core.Bool.{true, false};
 ghost use Prim.Native.Nat.{_+_, _≤_, _<_};
-ghost use lib.ListN.{length, getD, take};
+ghost use lib.ListN.{length, getD, take, drop};
 ghost use Rattle.text.specs.Outcome.{done};
 ghost use Rattle.text.specs.memory.Numbers.{numbersAt};
 ghost use Rattle.text.specs.memory.RuleLines.{positionAt};
 ghost use Rattle.formula.specs.memory.Words.{truthWord};
 ghost use Rattle.formula.specs.memory.Kinds.{kindOf};
-ghost use Rattle.replay.specs.memory.Held.{held, openedIn, isValue, removedIn, isSplit, isConjunction, splitIn, refutedIn};
-ghost use Rattle.replay.specs.memory.Steps.{heldIn, Arranged, Few, Stepped, ToldStep};
+ghost use Rattle.replay.specs.memory.Held.{held, openedIn, isValue, valueIn, removedIn, isSplit, isConjunction, splitIn, refutedIn};
+ghost use Rattle.replay.specs.memory.Steps.{heldIn, Arranged, Few, Stepped, ToldTarget, ToldStep};
 
 // The word at a place of the theory; 0 behind it.
 fn word_at(work: &[u32], full: usize, at: usize) -> u32
@@ -93,6 +93,31 @@ fn is_truth(word: u32, value: bool) -> bool
     }
 }
 
+// The whole formula of a name, if it is that truth value.
+fn value_target(
+    text: &[u8],
+    work: &[u32],
+    names: usize,
+    live: Live,
+    name: u32,
+    path: usize,
+    steps: usize,
+    value: bool,
+) -> Target
+    requires { ⌜ (length (now work) ≤ 16384) × Few live × (names + live .count ≤ length (now work)) × (live .full ≤ names) × (path ≤ length (now text)) × (length (now text) ≤ 65536) × (steps ≤ 65536) ⌝ }
+    ensures { λ r. ⌜ ToldTarget (valueIn value (held (take (live .full) (now (work .entry))) (take (live .count) (drop names (now (work .entry)))) (live .top) (live .ended)) (positionAt (now (text .entry)) name path steps)) live r ⌝ }
+{
+    match whole_target(text, work, names, live, name, path, steps) {
+        Target::At { index, at } => {
+            if !is_truth(word_at(work, live.full, at), value) {
+                return Target::Refused(13);
+            }
+            Target::At { index, at }
+        }
+        Target::Refused(number) => Target::Refused(number),
+    }
+}
+
 // TRIVIAL
 pub fn removed(
     text: &[u8],
@@ -106,11 +131,8 @@ pub fn removed(
     requires { ⌜ Arranged layout (length (now work)) × Few live × (path ≤ length (now text)) × (length (now text) ≤ 65536) × (steps ≤ 65536) ⌝ }
     ensures { λ r. ⌜ ToldStep (removedIn (heldIn layout live (now (work .entry))) (positionAt (now (text .entry)) name path steps)) layout (now (work .entry)) r (now (work .exit)) ⌝ }
 {
-    match whole_target(text, work, layout.names, live, name, path, steps) {
+    match value_target(text, work, layout.names, live, name, path, steps, true) {
         Target::At { index, at } => {
-            if !is_truth(word_at(work, live.full, at), true) {
-                return Step::Refused(13);
-            }
             Step::Done(opened(text, work, layout, live, index, at, 0, 0, live.top))
         }
         Target::Refused(number) => Step::Refused(number),
@@ -218,13 +240,8 @@ pub fn refuted(
     requires { ⌜ Arranged layout (length (now work)) × Few live × (path ≤ length (now text)) × (length (now text) ≤ 65536) × (steps ≤ 65536) ⌝ }
     ensures { λ r. ⌜ ToldStep (refutedIn (heldIn layout live (now (work .entry))) (positionAt (now (text .entry)) name path steps)) layout (now (work .entry)) r (now (work .exit)) ⌝ }
 {
-    match whole_target(text, work, layout.names, live, name, path, steps) {
-        Target::At { index: _, at } => {
-            if !is_truth(word_at(work, live.full, at), false) {
-                return Step::Refused(13);
-            }
-            Step::Done(falsified(work, layout, live, name))
-        }
+    match value_target(text, work, layout.names, live, name, path, steps, false) {
+        Target::At { index: _, at: _ } => Step::Done(falsified(work, layout, live, name)),
         Target::Refused(number) => Step::Refused(number),
     }
 }

@@ -105,9 +105,13 @@ isValue b (kind.Connective sign n) = false
 isValue b (kind.Quantifier every x) = false
 isValue b kind.Term = false
 
+-- the whole formula of a name, if it is that truth value
+unfoldable pub valueIn : Bool → Held → Position → Outcome ℕ (ℕ × ℕ)
+valueIn b m p = wholeIn m p >>= λ t. provided (isValue b (kindOf (getD (m .words) (t .1) 0))) 13 >> done t
+
 -- TRIVIAL
 unfoldable pub removedIn : Held → Position → Outcome ℕ Held
-removedIn m p = wholeIn m p >>= λ t. provided (isValue true (kindOf (getD (m .words) (t .1) 0))) 13 >> openedIn m t [] (m .top)
+removedIn m p = valueIn true m p >>= λ t. openedIn m t [] (m .top)
 
 -- a word of an `&` of so many parts, one or more
 abbrev pub isConjunction : Sign → ℕ → ℕ → Bool
@@ -135,7 +139,7 @@ splitIn m p names =
 
 -- UNSAT
 unfoldable pub refutedIn : Held → Position → Outcome ℕ Held
-refutedIn m p = wholeIn m p >>= λ t. provided (isValue false (kindOf (getD (m .words) (t .1) 0))) 13 >> done (held (truthWord false ∷ []) (p .name ∷ []) (m .top) true)
+refutedIn m p = valueIn false m p >>= λ t. done (held (truthWord false ∷ []) (p .name ∷ []) (m .top) true)
 
 -- the rule as the code names it
 abbrev pub ruleName : Rule → RuleName
