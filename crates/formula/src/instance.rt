@@ -1,6 +1,5 @@
 // IQ in memory: the body of a quantifier is copied once for each element whose flag is set, with the element for the variable.
 use crate::head::junction_word;
-use crate::store::copy;
 use crate::store::put;
 use crate::tag::ELEMENT;
 use crate::tag::EVERY;
@@ -14,7 +13,7 @@ ghost use mathlib.Core.Bool.{cond};
 ghost use Prim.Native.Nat.{_+_, _≤_, _<_};
 ghost use lib.ListN.{getD, take};
 ghost use lib.Seq.{slice};
-ghost use Rattle.formula.specs.memory.Storing.{Stores, Behind, Placed, Rewritten};
+ghost use Rattle.formula.specs.memory.Storing.{Stores, Behind};
 ghost use Rattle.formula.specs.memory.Instances.{wordWith, heldAfter, wordsWith, copies, setCount, instantiatedWords};
 
 // A word with an element for a variable, where some formulas are still to be copied as they are.
@@ -122,7 +121,7 @@ fn set_count(flags: [bool; 64], domain: u32) -> u32
 }
 
 // What is made of the quantifier from `at` to `end`.
-fn store_instantiated(
+pub fn store_instantiated(
     work: &mut [u32],
     at: usize,
     end: usize,
@@ -138,22 +137,4 @@ fn store_instantiated(
     let count = set_count(flags, domain);
     let next = put(work, to, junction_word(word % 16 == EVERY, count));
     instances(work, body, end, word / 16, flags, domain, next)
-}
-
-// The theory with IQ done on the quantifier from `at` to `end`.
-pub fn instantiate(
-    work: &mut [u32],
-    at: usize,
-    end: usize,
-    full: usize,
-    to: usize,
-    flags: [bool; 64],
-    domain: u32,
-) -> usize
-    requires { ⌜ Placed (now work) at end full to × (at < end) × (domain ≤ 64) ⌝ }
-    ensures { λ r. ⌜ Rewritten (now (work .entry)) at end full to (instantiatedWords (getD (now (work .entry)) at 0) (slice (at + 1) end (now (work .entry))) (take domain flags)) r (now (work .exit)) ⌝ }
-{
-    let place = copy(work, 0, at, to);
-    let next = store_instantiated(work, at, end, flags, domain, place);
-    copy(work, end, full, next) - to
 }

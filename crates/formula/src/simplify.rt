@@ -11,7 +11,7 @@ ghost use mathlib.Core.Bool.{cond};
 ghost use Prim.Native.Nat.{_+_, _/_, _≤_, _<_};
 ghost use lib.ListN.{length, getD, drop};
 ghost use lib.Seq.{slice};
-ghost use Rattle.formula.specs.memory.Storing.{Stores, Behind, Placed, Rewritten};
+ghost use Rattle.formula.specs.memory.Storing.{Stores, Behind};
 ghost use Rattle.formula.specs.memory.Simplified.{truthCount, wordsWithout, simplification, simplifiedWords, Fewer};
 
 // What is left of a connective: a truth value, or so many parts.
@@ -84,7 +84,7 @@ fn copy_others(work: &mut [u32], at: usize, end: usize, count: u32, value: bool,
 }
 
 // What is made of the `&` or `|` from `at` to `end`.
-fn store_simplified(work: &mut [u32], at: usize, end: usize, every: bool, to: usize) -> usize
+pub fn store_simplified(work: &mut [u32], at: usize, end: usize, every: bool, to: usize) -> usize
     requires { ⌜ Behind (now work) at end to × (at < end) × (to ≤ 1000000) ⌝ }
     ensures { λ r. ⌜ Stores (now (work .entry)) to (simplifiedWords every (getD (now (work .entry)) at 0 / 16) (slice (at + 1) end (now (work .entry)))) r (now (work .exit)) ⌝ }
 {
@@ -96,21 +96,4 @@ fn store_simplified(work: &mut [u32], at: usize, end: usize, every: bool, to: us
             copy_others(work, at + 1, end, parts, every, next)
         }
     }
-}
-
-// The theory with SNAND done on the `&`, or SNOR on the `|`, from `at` to `end`.
-pub fn simplify(
-    work: &mut [u32],
-    at: usize,
-    end: usize,
-    full: usize,
-    to: usize,
-    every: bool,
-) -> usize
-    requires { ⌜ Placed (now work) at end full to × (at < end) ⌝ }
-    ensures { λ r. ⌜ Rewritten (now (work .entry)) at end full to (simplifiedWords every (getD (now (work .entry)) at 0 / 16) (slice (at + 1) end (now (work .entry)))) r (now (work .exit)) ⌝ }
-{
-    let place = copy(work, 0, at, to);
-    let next = store_simplified(work, at, end, every, place);
-    copy(work, end, full, next) - to
 }

@@ -46,23 +46,6 @@ pub fn copy_back(work: &mut [u32], from: usize, size: usize) -> usize
     j
 }
 
-// The theory with one word for the formula from `at` to `end`.
-pub fn with_word(
-    work: &mut [u32],
-    at: usize,
-    end: usize,
-    full: usize,
-    to: usize,
-    word: u32,
-) -> usize
-    requires { ⌜ Placed (now work) at end full to ⌝ }
-    ensures { λ r. ⌜ Rewritten (now (work .entry)) at end full to (word ∷ []) r (now (work .exit)) ⌝ }
-{
-    let place = copy(work, 0, at, to);
-    let next = put(work, place, word);
-    copy(work, end, full, next) - to
-}
-
 // The theory without one of its words.
 pub fn without_word(work: &mut [u32], at: usize, full: usize, to: usize) -> usize
     requires { ⌜ Placed (now work) at (at + 1) full to ⌝ }

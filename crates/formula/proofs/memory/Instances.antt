@@ -17,7 +17,7 @@ use Rattle.formula.specs.memory.Words.{connectiveTag}
 use Rattle.formula.specs.memory.Stored.{sideOf, afterFirst}
 use Rattle.formula.specs.memory.Storing.{Stores}
 use Rattle.formula.specs.memory.Instances.{wordWith, heldAfter, wordsWith, copies, setCount, instantiatedWords}
-use Rattle.formula.proofs.memory.Storing.{Ahead, ahead-start, ahead-turn, ahead-end, ahead-read, ahead-slice}
+use Rattle.formula.proofs.memory.Storing.{Ahead, ahead-start, ahead-turn, ahead-end, ahead-slice}
 
 -- One word.
 
@@ -143,10 +143,3 @@ unfolding instantiatedWords
 instantiated-near word work at end count flags h =
     let rest : length (afterFirst (slice at end work)) ≤ 16384 = simp (length-drop, length-take) (omega arith) in
     omega (arith, length-copies (take count flags) (word / 16) (afterFirst (slice at end work)) 1 rest, length-take count flags)
-
--- the quantifier stands as it stood while what precedes it was copied
-pub instantiated-kept : {old : List ℕ} {to : ℕ} {whole work : List ℕ} {place : ℕ} {rest : List ℕ} → Ahead old to whole work place rest
-    → (at end : ℕ) (flags : List Bool) {next : ℕ} {later : List ℕ} → at < to → end ≤ to
-    → Stores work place (instantiatedWords (getD work at 0) (slice (at + 1) end work) flags) next later
-    → Stores work place (instantiatedWords (getD old at 0) (slice (at + 1) end old) flags) next later
-instantiated-kept a at end flags h k s = rw (ahead-read a at h, ahead-slice a (at + 1) end k) at s

@@ -1,12 +1,12 @@
 -- A rule at a place of memory: what is stored for each decision, and that it is the words of the theory with what the rule makes in the formula's place.
 -- Assumes nothing.
-use Prim.Native.Nat.{ℕ, _+_, _-_, _≤_, _<_}
+use Prim.Native.Nat.{ℕ, _+_, _-_, _*_, _/_, _≤_, _<_}
 use native.Mathlib.Omega.{arith}
 use mathlib.Core.Path.{_≡_, sym, ap, subst, _∙_}
-use mathlib.Core.List.{List, _∷_, _++_, map, append-assoc}
+use mathlib.Core.List.{List, _++_, map}
 use mathlib.Core.Bool.{Bool, true, false, cond}
-use lib.ListN.{length, getD, take, drop, take-append-drop, length-take, length-append}
-use lib.Seq.{slice, sets, length-take-le, take-take, take-append-seam, take-append-add, drop-append-seam, drop-append-add}
+use lib.ListN.{length, getD, take, drop, length-take, length-drop, length-append}
+use lib.Seq.{slice, length-take-le, take-take, take-append-seam, take-append-add, drop-append-seam, drop-append-add}
 use Rattle.text.specs.Bytes.{Bytes}
 use Rattle.text.specs.Outcome.{Outcome, done, refused}
 use Rattle.text.specs.Problem.{Name, Problem}
@@ -31,21 +31,31 @@ use Rattle.formula.proofs.memory.Kinds.{skip-turn}
 use Rattle.formula.proofs.memory.Naming.{Naming, wordsIn, Storable}
 use Rattle.formula.proofs.memory.Words.{length-words, skip-first}
 use Rattle.formula.proofs.memory.Standing.{drop-take}
-use Rattle.formula.proofs.memory.Storing.{slice-next}
+use Rattle.formula.proofs.memory.Storing.{Ahead, ahead-read, ahead-slice}
+use Rattle.formula.proofs.memory.Simplified.{simplified-near}
+use Rattle.formula.proofs.memory.Instances.{instantiated-near}
 use Rattle.formula.proofs.memory.Simplification.{simplified-stands}
 use Rattle.formula.proofs.memory.Instantiated.{instantiated-stands}
 use Rattle.formula.proofs.memory.Decided.{QuantifierFits, Told, rule-told}
 
-take-slice : (k n : ℕ) (s : List ℕ) → k ≤ n → take k s ++ slice k n s ≡ take n s
-take-slice k n s h = rw (← take-take k n s h) (take-append-drop k (take n s))
+-- what is decided takes no more room than memory for each element
+pub decided-near : (decided : Fit) (word : ℕ) (work : List ℕ) (at end count : ℕ) (flags : List Bool) → length work ≤ 16384
+    → length (fitWords decided word (slice at end work) (take count flags)) ≤ 16385 + count * 16384
+decided-near (fit.Value b) word work at end count flags h = omega arith
+decided-near (fit.Junction every) word work at end count flags h =
+    let l : length (slice at end work) ≤ 16384 = simp (length-drop, length-take) (omega arith) in
+    omega (arith, simplified-near every (word / 16) (slice at end work))
+decided-near fit.Quantifier word work at end count flags h = omega (arith, instantiated-near word work at end count flags h)
+decided-near fit.Misfit word work at end count flags h =
+    let l : length (slice at end work) ≤ 16384 = simp (length-drop, length-take) (omega arith) in
+    omega arith
 
--- a formula in its own place
-spliced-same : (old : List ℕ) (at end full : ℕ) → at < end → end ≤ full → full ≤ length old
-    → spliced old at end full (getD old at 0 ∷ slice (at + 1) end old) ≡ slice 0 full old
-spliced-same old at end full h k l =
-    ap (λ (s : List ℕ). take at old ++ (s ++ slice end full old)) (sym (slice-next at end old h (omega arith)))
-    ∙ sym (append-assoc (take at old) (slice at end old) (slice end full old))
-    ∙ rw (take-slice at end old (omega arith)) (take-slice end full old k)
+-- the formula stands as it stood while what precedes it was copied
+pub decided-kept : {old : List ℕ} {to : ℕ} {whole work : List ℕ} {place : ℕ} {rest : List ℕ} → Ahead old to whole work place rest
+    → (decided : Fit) (at end : ℕ) (flags : List Bool) {next : ℕ} {later : List ℕ} → at < to → end ≤ to
+    → Stores work place (fitWords decided (getD work at 0) (slice (at + 1) end work) flags) next later
+    → Stores work place (fitWords decided (getD old at 0) (slice (at + 1) end old) flags) next later
+decided-kept a decided at end flags h k s = rw (ahead-read a at h, ahead-slice a (at + 1) end k) at s
 
 module _ (old : List ℕ) (at full to : ℕ) (p : Standing old at full to) (end : ℕ) (ends : end ≡ endWithin old at full) where
   pub end-after : at < end
@@ -54,20 +64,12 @@ module _ (old : List ℕ) (at full to : ℕ) (p : Standing old at full to) (end 
       let z = skip-turn (take full old) at 1 (omega (arith, p .here)) (omega arith) in
       omega arith
 
-  module _ (flags : List Bool) (decided : Fit) where
-    -- what is stored for a decision
-    pub stored-as : {new work : List ℕ} {total : ℕ} → new ≡ fitWords decided (getD old at 0) (slice (at + 1) end old) flags → Rewritten old at end full to new total work
-        → Rewritten old at (endWithin old at full) full to (rewrittenWords decided old at full flags) total work
-    unfolding rewrittenWords
-    stored-as e s = rw (← ends, ← e) s
-
-    -- the theory as it was
-    pub stored-same : {work : List ℕ} {total : ℕ} → end ≤ full → decided ≡ fit.Misfit → Stores old to (slice 0 full old) total work
-        → Rewritten old at (endWithin old at full) full to (rewrittenWords decided old at full flags) (total - to) work
-    stored-same h e s =
-        let same = spliced-same old at end full end-after h (omega (arith, p)) in
-        stored-as {new = getD old at 0 ∷ slice (at + 1) end old} (rw e)
-        (record { holds = s .holds ∙ ap (sets old to) (sym same); sized = rw same (omega (arith, s .ends)) })
+  -- what is stored for a decision
+  pub stored-as : (flags : List Bool) (decided : Fit) {work : List ℕ} {total : ℕ}
+      → Rewritten old at end full to (fitWords decided (getD old at 0) (slice (at + 1) end old) flags) total work
+      → Rewritten old at (endWithin old at full) full to (rewrittenWords decided old at full flags) total work
+  unfolding rewrittenWords
+  stored-as flags decided s = rw (← ends) s
 
 -- A theory's words, among them some in the middle: these give way to others in their place.
 module _ (old : List ℕ) (full : ℕ) (before middle after : List ℕ) (theory : take full old ≡ before ++ (middle ++ after)) where

@@ -1,6 +1,6 @@
 -- SNAND and SNOR in memory: a turn of the loops over a connective's parts, and what is left of the connective.
 -- Assumes nothing.
-use Prim.Native.Nat.{ℕ, zero, suc, _+_, _-_, _*_, _/_, _≤_, _<_}
+use Prim.Native.Nat.{ℕ, zero, suc, _+_, _-_, _*_, _≤_, _<_}
 use native.Mathlib.Nat.{zero-add}
 use native.Mathlib.Numerals.{sub-one}
 use native.Mathlib.Omega.{arith}
@@ -20,7 +20,7 @@ use Rattle.formula.specs.memory.Storing.{Stores}
 use Rattle.formula.specs.memory.Simplified.{startsTruth, truthCount, wordsWithout, simplification, simplifiedBy, simplifiedWords}
 use Rattle.formula.specs.declared.simplify.Simplified.{Simplified}
 use Rattle.formula.specs.declared.simplify.Simplified.the-variants.{Value, Parts}
-use Rattle.formula.proofs.memory.Storing.{Ahead, ahead-start, ahead-turn, ahead-end, ahead-read, ahead-slice}
+use Rattle.formula.proofs.memory.Storing.{Ahead, ahead-start, ahead-turn, ahead-end, ahead-slice}
 use Rattle.formula.proofs.memory.Standing.{drop-take}
 
 -- One part more.
@@ -122,10 +122,3 @@ simplified-near every n s = pick (simplification every n s)
     pick : (r : Simplified) → length (simplifiedBy every n s r) ≤ 1 + length s
     pick (Value b) = omega arith
     pick (Parts count) = let h = length-wordsWithout every n s in omega arith
-
--- the connective stands as it stood while what precedes it was copied
-pub simplified-kept : {old : List ℕ} {to : ℕ} {whole work : List ℕ} {place : ℕ} {rest : List ℕ} → Ahead old to whole work place rest
-    → (at end : ℕ) (every : Bool) {next : ℕ} {later : List ℕ} → at < to → end ≤ to
-    → Stores work place (simplifiedWords every (getD work at 0 / 16) (slice (at + 1) end work)) next later
-    → Stores work place (simplifiedWords every (getD old at 0 / 16) (slice (at + 1) end old)) next later
-simplified-kept a at end every h k s = rw (ahead-read a at h, ahead-slice a (at + 1) end k) at s

@@ -1,13 +1,35 @@
--- `rewrite::rewrite` does what was decided: one law for each decision.
+-- `rewrite::rewrite` stores what stands before the formula, what was decided of it, and what stands after it.
 -- Assumes nothing.
 use borrow.Author.Needs.{needs}
 use native.Mathlib.Omega.{arith}
-use mathlib.Core.Path.{sym}
-use lib.ListN.{take}
-use lib.Seq.{length-take-le}
-use Rattle.formula.proofs.memory.Rewriting.{end-after, stored-as, stored-same}
+use Prim.Native.Nat.{ℕ, _+_, _<_}
+use mathlib.Core.Path.{refl, sym}
+use mathlib.Core.List.{List}
+use lib.ListN.{getD, take}
+use lib.Seq.{slice, length-take-le}
+use Rattle.formula.specs.memory.Storing.{Placed}
+use Rattle.formula.specs.memory.Rewriting.{fitWords}
+use Rattle.formula.proofs.memory.Storing.{ahead-turn, ahead-length, theory-starts, theory-ends, place-near}
+use Rattle.formula.proofs.memory.Rewriting.{end-after, decided-near, decided-kept, stored-as}
 use Rattle.formula.proofs.rewrite.rewrite.Statement.{statement}
 use Rattle.formula.proofs.rewrite.rewrite.Tie as tie
+
+-- where the formula ends
+module _ (c : tie.After-past) where
+  abbrev begun : tie.Start
+  begun = c .before .before .before
+
+  after : begun .args .at < c .past .result
+  after = let a = begun .args in end-after (a .work .now) (a .at) (a .full) (a .to) (begun .pre .0) _ (c .past .ensures .0)
+
+  placed : Placed (begun .args .work .now) (begun .args .at) (c .past .result) (begun .args .full) (begun .args .to)
+  placed =
+      let l = length-take-le (begun .args .full) (begun .args .work .now) (omega (arith, begun .pre .0)) in
+      omega (arith, begun .pre .0, c .past .ensures .1, after)
+
+  -- what was decided of it
+  abbrev decided : List ℕ
+  decided = let a = begun .args in fitWords (a .fit) (getD (a .work .now) (a .at) 0) (slice (a .at + 1) (c .past .result) (a .work .now)) (take (a .domain) (a .flags))
 
 slice-aggregate-past : tie.Need-slice-aggregate-past
 slice-aggregate-past c =
@@ -20,76 +42,47 @@ past-requires c κs =
     let l = length-take-le (start .args .full) (start .args .work .now) (omega (arith, start .pre .0)) in
     omega (arith, start .pre .0)
 
-with-word-requires : tie.Need-with-word-requires
-with-word-requires c κs =
-    let past = c .before .before .before .before .before .past in
-    let start = c .before .before .before .before .before .before .before .before in
-    let a = start .args in
-    let p = start .pre .0 in
-    let l = length-take-le (a .full) (a .work .now) (omega (arith, p)) in
-    omega (arith, p, past .ensures .1, end-after (a .work .now) (a .at) (a .full) (a .to) p _ (past .ensures .0))
-
-simplify-requires : tie.Need-simplify-requires
-simplify-requires c κs =
-    let past = c .before .before .before .before .past in
-    let start = c .before .before .before .before .before .before .before in
-    let a = start .args in
-    let p = start .pre .0 in
-    let l = length-take-le (a .full) (a .work .now) (omega (arith, p)) in
-    omega (arith, p, past .ensures .1, end-after (a .work .now) (a .at) (a .full) (a .to) p _ (past .ensures .0))
-
-instantiate-requires : tie.Need-instantiate-requires
-instantiate-requires c κs =
-    let past = c .before .before .before .past in
-    let start = c .before .before .before .before .before .before in
-    let a = start .args in
-    let p = start .pre .0 in
-    let l = length-take-le (a .full) (a .work .now) (omega (arith, p)) in
-    omega (arith, p, past .ensures .1, end-after (a .work .now) (a .at) (a .full) (a .to) p _ (past .ensures .0))
-
 copy-requires : tie.Need-copy-requires
-copy-requires c κs =
-    let start = c .before .before .before .before .before .before in
-    omega (arith, start .pre .0)
+copy-requires c κs = omega (arith, begun (c .before) .pre .0)
+
+store-decided-requires : tie.Need-store-decided-requires
+store-decided-requires c κs =
+    let copied = c .before .before .before in
+    let found = copied .before .before in
+    let p = placed found in
+    omega (arith, place-near p (copied .copy .ensures), copied .copy .kept .0, p, after found, begun found .pre)
+
+copy-requires-2 : tie.Need-copy-requires-2
+copy-requires-2 c κs =
+    let stored = c .before .before .before in
+    let copied = stored .before .before .before .before in
+    let found = copied .before .before in
+    let a = begun found .args in
+    let p = placed found in
+    let near = decided-near (a .fit) (getD (a .work .now) (a .at) 0) (a .work .now) (a .at + 1) (found .past .result) (a .domain) (a .flags) (omega (arith, p)) in
+    let start = theory-starts p (decided found) (copied .copy .ensures) in
+    let middle = decided-kept start (a .fit) (a .at) (found .past .result) (take (a .domain) (a .flags)) (omega (arith, p, after found)) (omega (arith, p)) (stored .store-decided .ensures) in
+    omega (arith, p, place-near p (copied .copy .ensures), near, middle .ends, begun found .pre .1, ahead-length (ahead-turn start refl middle))
+
+sub-result : tie.Need-sub-result
+sub-result c =
+    let done = c .before .before in
+    let stored = done .before .before .before .before in
+    let copied = stored .before .before .before .before in
+    omega (arith, done .copy2 .ensures .ends, place-near (placed (copied .before .before)) (copied .copy .ensures), stored .store-decided .ensures .ends)
 
 returns : tie.Need-returns
 returns c =
-    let truth-word = c .before .before .before .truth-word in
-    let fit = c .before .before .before .before .before .before .fit in
-    let past = c .before .before .before .before .before .before .before .before .past in
-    let start = c .before .before .before .before .before .before .before .before .before .before .before in
-    let a = start .args in
-    stored-as (a .work .now) (a .at) (a .full) (a .to) (start .pre .0) _ (past .ensures .0) (take (a .domain) (a .flags)) (a .fit)
-    (rw (fit .given .1, truth-word .ensures)) (c .before .before .with-word .ensures)
-
-returns-2 : tie.Need-returns-2
-returns-2 c =
-    let fit2 = c .before .before .before .before .before .fit2 in
-    let past = c .before .before .before .before .before .before .before .past in
-    let start = c .before .before .before .before .before .before .before .before .before .before in
-    let a = start .args in
-    stored-as (a .work .now) (a .at) (a .full) (a .to) (start .pre .0) _ (past .ensures .0) (take (a .domain) (a .flags)) (a .fit)
-    (rw (fit2 .given .1)) (c .before .before .simplify .ensures)
-
-returns-3 : tie.Need-returns-3
-returns-3 c =
-    let enum-told = c .before .before .before .before .enum-told in
-    let past = c .before .before .before .before .before .before .past in
-    let start = c .before .before .before .before .before .before .before .before .before in
-    let a = start .args in
-    stored-as (a .work .now) (a .at) (a .full) (a .to) (start .pre .0) _ (past .ensures .0) (take (a .domain) (a .flags)) (a .fit)
-    (rw (enum-told .given .1)) (c .before .before .instantiate .ensures)
-
-returns-4 : tie.Need-returns-4
-returns-4 c =
-    let enum-told2 = c .before .before .before .before .enum-told2 in
-    let past = c .before .before .before .before .before .before .past in
-    let start = c .before .before .before .before .before .before .before .before .before in
-    let a = start .args in
-    let p = start .pre .0 in
-    let l = length-take-le (a .full) (a .work .now) (omega (arith, p)) in
-    stored-same (a .work .now) (a .at) (a .full) (a .to) p _ (past .ensures .0) (take (a .domain) (a .flags)) (a .fit)
-    (omega (arith, past .ensures .1)) (enum-told2 .given .1) (c .before .before .copy .ensures)
+    let done = c .before .before in
+    let stored = done .before .before .before .before in
+    let copied = stored .before .before .before .before in
+    let found = copied .before .before in
+    let a = begun found .args in
+    let p = placed found in
+    let start = theory-starts p (decided found) (copied .copy .ensures) in
+    let middle = decided-kept start (a .fit) (a .at) (found .past .result) (take (a .domain) (a .flags)) (omega (arith, p, after found)) (omega (arith, p)) (stored .store-decided .ensures) in
+    stored-as (a .work .now) (a .at) (a .full) (a .to) (begun found .pre .0) _ (found .past .ensures .0) (take (a .domain) (a .flags)) (a .fit)
+    (theory-ends p (ahead-turn start refl middle) (done .copy2 .ensures))
 
 pub rewrite-spec : {M : Type 1} → statement M
 rewrite-spec =
@@ -98,21 +91,9 @@ rewrite-spec =
     (λ c. search needs)
     slice-aggregate-past
     past-requires
-    (λ c. search needs)
-    (λ c κs. search needs)
-    with-word-requires
-    (λ c. search needs)
-    simplify-requires
-    (λ c. search needs)
-    instantiate-requires
-    (λ c. search needs)
     copy-requires
+    store-decided-requires
+    copy-requires-2
+    sub-result
     (λ c. search needs)
-    (λ c. search needs)
-    returns
-    (λ c. search needs)
-    returns-2
-    (λ c. search needs)
-    returns-3
-    (λ c. search needs)
-    returns-4)
+    returns)

@@ -1,7 +1,6 @@
 -- `whole::value_target`: the target, and whether it is the truth value that is asked for.
 -- Assumes nothing.
 use borrow.Author.Needs.{needs}
-use native.Mathlib.Omega.{arith}
 use mathlib.Core.Path.{_≡_}
 use mathlib.Core.Bool.{Bool, true, false}
 use lib.ListN.{getD, take, drop}
