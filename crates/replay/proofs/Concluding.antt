@@ -23,9 +23,10 @@ use Rattle.replay.specs.Ground.{Ground, groundText}
 use Rattle.replay.specs.Answer.{differenceLine, grounded, replayed, checked, answerOf, workAfter, resultOf, replayResult, checkResult}
 use Rattle.replay.specs.Promise.{Promise}
 use Rattle.replay.specs.memory.Grounds.{GroundTold}
-use Rattle.replay.specs.memory.Conclusions.{agreed, concludedOf, judgedOf, shortOf, answeredOf, Told, Concluded}
+use Rattle.replay.specs.memory.Conclusions.{agreed, concludedOf, judgedOf, shortOf, answeredOf}
+use Rattle.replay.specs.memory.Answers.{Told, Concluded}
 use Rattle.replay.specs.declared.grounding.Grounded.{Grounded}
-use Rattle.replay.specs.declared.job.Answer.{Answer}
+use Rattle.replay.specs.declared.answer.Answer.{Answer}
 use Rattle.replay.proofs.Demands.{ground-short}
 use Rattle.replay.proofs.Printing.{counted-kept, counted-length, counted-same, counted-line, stored-text}
 

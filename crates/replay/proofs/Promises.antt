@@ -25,7 +25,7 @@ use Rattle.replay.specs.Accepted.{Grounds, finalText, accepts, Fits, Equ
 use Rattle.replay.specs.Refused.{Listed, Refused}
 use Rattle.replay.specs.Promise.{Promise}
 use Rattle.replay.specs.memory.Conclusions.{answeredOf}
-use Rattle.replay.specs.declared.job.Answer.{Answer}
+use Rattle.replay.specs.declared.answer.Answer.{Answer}
 use Rattle.replay.proofs.Refusals.{replayed-refuses, checked-refuses}
 use Rattle.replay.proofs.Accepted.{check-answered}
 use Rattle.replay.proofs.Demands.{demand-two, demand-two-result, demand-three, replay-two, replay-two-result, replay-three, false-nowhere}

@@ -12,7 +12,7 @@ use Rattle.text.specs.Problem.{problemOf}
 use Rattle.replay.specs.TheoryText.{theoryOf}
 use Rattle.replay.specs.Ground.{Ground, groundText, groundOf}
 use Rattle.replay.specs.Replay.{derivationOf}
-use Rattle.replay.specs.declared.job.Answer.{Answer}
+use Rattle.replay.specs.declared.answer.Answer.{Answer}
 
 -- 1, 2 and 18 name no file and no line
 abbrev pub enough : List ℕ → Judged (Unit {0})

@@ -3,7 +3,7 @@ use Prim.Native.Nat.{ℕ}
 use mathlib.Core.Path.{_≡_}
 use mathlib.Core.List.{List}
 use Rattle.replay.specs.Answer.{Result}
-use Rattle.replay.specs.declared.job.Answer.{Answer}
+use Rattle.replay.specs.declared.answer.Answer.{Answer}
 
 pub record Promise (result : Result) (r : Answer) (output work : List ℕ) : Type 0 where
   pub is : r ≡ result .answer

@@ -6,7 +6,7 @@ use mathlib.Core.List.{List}
 use mathlib.Core.Bool.{cond, _||_}
 use lib.Dec.{eqb, leb}
 use Rattle.text.specs.Lines.{Refusal, refusal}
-use Rattle.replay.specs.declared.job.Answer.{Answer}
+use Rattle.replay.specs.declared.answer.Answer.{Answer}
 
 -- the file that a number speaks of
 abbrev pub fileOf : ℕ → ℕ

@@ -5,3 +5,4 @@ pub mod Lines
 pub mod TheoryReads
 pub mod Grounds
 pub mod Conclusions
+pub mod Answers

@@ -1,4 +1,5 @@
 // The jobs replay and check. They are one, but for the claim: `compare` says whether there is one.
+use crate::answer::Answer;
 use crate::clearing::clear;
 use crate::grounding::ground_theory;
 use crate::live::Layout;
@@ -17,20 +18,12 @@ ghost use Rattle.formula.specs.memory.ClauseText.{clauseLines};
 ghost use Rattle.replay.specs.Answer.{resultOf, replayResult, checkResult};
 ghost use Rattle.replay.specs.Promise.{Promise};
 ghost use Rattle.replay.specs.memory.Steps.{Arranged};
-ghost use Rattle.replay.specs.memory.Conclusions.{judgedOf, shortOf, answeredOf, Told, Concluded};
+ghost use Rattle.replay.specs.memory.Conclusions.{judgedOf, shortOf, answeredOf};
+ghost use Rattle.replay.specs.memory.Answers.{Told, Concluded};
 
 const WORK_SIZE: usize = 16384;
 
 const TEXT_SIZE: usize = 65536;
-
-// What the desk sees: 0 with the counts of rule lines and final formulas, or a refusal with its number, file and line.
-pub struct Answer {
-    pub number: u32,
-    pub file: u32,
-    pub line: u32,
-    pub rules: u32,
-    pub formulas: u32,
-}
 
 fn refused(number: u32, file: u32, line: u32) -> Answer
     ensures { λ r. ⌜ r ≡ record { number = number; file = file; line = line; rules = 0; formulas = 0 } ⌝ }

@@ -1,4 +1,5 @@
 // Theories, the replay of a derivation, and the answers of the jobs.
+pub mod answer;
 pub mod clearing;
 pub mod ending;
 pub mod front;
