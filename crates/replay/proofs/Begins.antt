@@ -15,7 +15,7 @@ use Rattle.text.specs.Each.{Each}
 use Rattle.text.specs.Valid.{Valid}
 use Rattle.text.specs.memory.Table.{position, tableNames, problemIn}
 use Rattle.text.specs.declared.table.Table.{Table}
-use Rattle.text.proofs.Laws.{and-left, and-right}
+use Rattle.text.proofs.Laws.{and-left, and-right, each-left, each-right}
 use Rattle.text.proofs.Outcome.{allowed-done}
 use Rattle.logic.specs.Formula.{Formula}
 use Rattle.logic.specs.Names.{known}
@@ -23,7 +23,6 @@ use Rattle.logic.specs.Limits.{variables, theoryVariables, sizeTotal, sizesFit}
 use Rattle.logic.specs.Meaning.{countFrom}
 use Rattle.formula.specs.memory.NameTable.{extendedBy, namesIn, listFits}
 use Rattle.formula.specs.memory.Entries.{predicateIndex}
-use Rattle.formula.proofs.memory.Entries.{each-left, each-right}
 use Rattle.formula.proofs.memory.Naming.{Naming, Storable}
 use Rattle.formula.proofs.memory.Listing.{tableNames-in, problemNaming, storable-known}
 use Rattle.formula.proofs.memory.TheoryLines.{fits-length, fits-members}

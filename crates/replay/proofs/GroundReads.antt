@@ -26,7 +26,7 @@ use Rattle.text.proofs.Tables.{domain-in}
 use Rattle.logic.specs.Formula.{Formula}
 use Rattle.logic.specs.Meaning.{countFrom}
 use Rattle.formula.specs.memory.Entries.{predicateIndex}
-use Rattle.formula.proofs.memory.Admitted.{length-countFrom}
+use Rattle.logic.proofs.Meaning.{length-countFrom}
 use Rattle.replay.specs.Theory.{formulasOf, namesOf, liveTheory, initial}
 use Rattle.replay.specs.TheoryText.{theoryOf}
 use Rattle.replay.specs.Replay.{Replayed, derivationFrom}

@@ -10,11 +10,11 @@ use lib.ListN.{length, take, drop, set, length-set, length-drop}
 use lib.Seq.{slice, length-take-le, length-front, take-take, take-set-le, take-set-lt, drop-set-lt, take-suc-set, drop-cons, getD-set-same}
 use Rattle.text.specs.Outcome.{done, refused}
 use Rattle.formula.specs.memory.Words.{truthWord}
-use Rattle.formula.specs.memory.Storing.{spliced}
+use Rattle.formula.specs.memory.Storing.{spliced, Roomy, Fronted}
 use Rattle.formula.specs.memory.Rewriting.{endWithin, rewrittenWords}
 use Rattle.formula.specs.declared.decide.Fit.{Fit}
 use Rattle.replay.specs.memory.Held.{held, exchanged, sizedIn, openedIn}
-use Rattle.replay.specs.memory.Steps.{liveNames, heldIn, Arranged, Few, Stepped, Roomy, Fronted}
+use Rattle.replay.specs.memory.Steps.{liveNames, heldIn, Arranged, Few, Stepped}
 use Rattle.replay.specs.declared.live.Live.{Live}
 use Rattle.replay.specs.declared.live.Layout.{Layout}
 use Rattle.replay.proofs.Regions.{behind-front, within-front, slice-behind, within-end, end-part, slice-before, spliced-front, made-front, part-end, put-end}

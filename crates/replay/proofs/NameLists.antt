@@ -10,7 +10,7 @@ use lib.Seq.{drop-cons, getD-take, getD-drop, set-at}
 use borrow.Author.Tests.{eq-eqb, ne-eqb}
 use Rattle.text.specs.Bytes.{same}
 use Rattle.logic.specs.Meaning.{countFrom}
-use Rattle.formula.proofs.memory.Admitted.{length-countFrom}
+use Rattle.logic.proofs.Meaning.{length-countFrom}
 use Rattle.replay.specs.memory.Names.{indexIn}
 
 -- a list that stands in memory from a place on

@@ -1,41 +1,20 @@
 -- Parts of working memory: what a write to one part leaves in the others, and what it makes of the front.
 -- Assumes nothing.
 use Prim.Native.Nat.{ℕ, _+_, _-_, _≤_, _<_}
-use native.Mathlib.Nat.{zero-add}
 use native.Mathlib.Omega.{arith}
 use mathlib.Core.Path.{_≡_, sym, ap, ap₂, _∙_}
-use mathlib.Core.List.{List, _++_, append-assoc, append-nil}
+use mathlib.Core.List.{List, _++_, append-nil}
 use borrow.Rule.Slice.PartMut.{putMid, post-is}
 use mathlib.Core.Bool.{Bool}
-use lib.ListN.{length, take, drop, length-append, length-drop}
-use lib.Seq.{slice, sets, drop-length, length-take-le, take-all, take-take, drop-drop, take-append-le, drop-append-add, take-at, drop-at, getD-take, length-sets, sets-eq, length-slice}
+use lib.ListN.{length, take, drop, length-drop}
+use lib.Seq.{slice, drop-length, length-take-le, take-all, take-take, drop-drop, take-append-le, drop-append-add, drop-at, getD-take}
 use Rattle.formula.specs.memory.Kinds.{skip}
-use Rattle.formula.specs.memory.Storing.{spliced, Placed}
+use Rattle.formula.specs.memory.Storing.{spliced}
 use Rattle.formula.specs.memory.Rewriting.{endWithin, fitWords, rewrittenWords}
 use Rattle.formula.specs.declared.decide.Fit.{Fit}
 use Rattle.formula.proofs.memory.Kinds.{skip-within}
 use Rattle.formula.proofs.memory.Standing.{drop-take}
 use Rattle.replay.specs.memory.Held.{exchanged}
-use Rattle.replay.specs.memory.Steps.{Roomy, Fronted}
-
--- A list that was made behind another and copied to the front.
-module _ (old made mid work : List ℕ) (next total : ℕ) where
-  pub fronted : mid ≡ sets old next made → total ≡ length made → total ≤ next → next + next ≤ length old
-      → work ≡ sets mid 0 (slice next (next + total) mid) → Fronted made next total work
-  fronted h l small room w =
-      let there : mid ≡ take next old ++ (made ++ drop (next + length made) old) = h ∙ sets-eq made old next (omega arith) ∙ append-assoc (take next old) made (drop (next + length made) old) in
-      let first : length (take next old) ≡ next = length-take-le next old (omega arith) in
-      let middle : slice next (next + total) mid ≡ made =
-      drop-take next total mid ∙ ap (take total) (ap (drop next) there ∙ drop-at (take next old) (made ++ drop (next + length made) old) next first)
-      ∙ take-at made (drop (next + length made) old) total (sym l) in
-      let long : length mid ≡ length old = ap length h ∙ length-sets old next made in
-      let here : work ≡ made ++ drop (length made) mid = w ∙ ap (sets mid 0) middle ∙ sets-eq made mid 0 (omega arith) ∙ ap (λ (k : ℕ). made ++ drop k mid) (zero-add (length made)) in
-      record { sized = l; stands = λ s. ap (take total) here ∙ take-at made (drop (length made) mid) total (sym l) }
-
-pub length-spliced : (work : List ℕ) (at end full : ℕ) (new : List ℕ) → at ≤ full → full ≤ length work → length (spliced work at end full new) ≡ at + (length new + (full - end))
-length-spliced work at end full new h l =
-    length-append (take at work) (new ++ slice end full work)
-    ∙ ap₂ _+_ (length-take-le at work (omega arith)) (length-append new (slice end full work) ∙ ap (λ (k : ℕ). length new + k) (length-slice end full work l))
 
 -- a part as the code takes it
 pub slice-part : (work : List ℕ) (i j : ℕ) → i ≤ j → take (j - i) (drop i work) ≡ slice i j work
@@ -108,10 +87,6 @@ module _ (work : List ℕ) (full : ℕ) (room : full ≤ length work) where
   made-front decided at flags h =
       spliced-front at (endWithin work at full) (rewrittenWords decided work at full flags) (omega arith)
       ∙ ap₂ (λ (e : ℕ) (new : List ℕ). exchanged (take full work) at e new) (end-front at) (rewritten-front decided at flags h)
-
--- a place with room behind the list, as the stores ask for it
-pub roomy-placed : {work : List ℕ} {at full next : ℕ} → Roomy work at full next → Placed work at (at + 1) full next
-roomy-placed r = record { ordered = omega arith; ends = omega (arith, r .here); apart = r .apart; within = omega (arith, r .room); long = r .long }
 
 -- the part from a place to the end, as the code takes it and puts it back
 pub part-end : (work : List ℕ) (names : ℕ) → take (length work - names) (drop names work) ≡ drop names work

@@ -6,10 +6,9 @@ use mathlib.Core.List.{List, [], _∷_, _++_, map-append}
 use mathlib.Core.Bool.{Bool, _&&_, and-assoc}
 use lib.ListN.{length, length-map}
 use Rattle.text.specs.Each.{Each}
-use Rattle.text.proofs.Laws.{each-append}
+use Rattle.text.proofs.Laws.{each-left, each-right, each-append}
 use Rattle.logic.specs.Formula.{Formula, Formulas, noParts, part, all}
 use Rattle.logic.specs.Meaning.{Structure, nowhere, holds, truths, joinAll, satisfies}
-use Rattle.formula.proofs.memory.Entries.{each-left, each-right}
 use Rattle.replay.specs.Theory.{Entry, Theory, formulasOf, namesOf}
 use Rattle.replay.specs.Steps.{Named, nobody, somebody}
 

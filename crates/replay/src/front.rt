@@ -6,9 +6,8 @@ use formula::store::without_word;
 ghost use Prim.Native.Nat.{_+_, _≤_, _<_};
 ghost use mathlib.Core.List.{[]};
 ghost use lib.ListN.{take};
-ghost use Rattle.formula.specs.memory.Storing.{spliced};
+ghost use Rattle.formula.specs.memory.Storing.{spliced, Roomy, Fronted};
 ghost use Rattle.formula.specs.memory.Rewriting.{endWithin, rewrittenWords};
-ghost use Rattle.replay.specs.memory.Steps.{Roomy, Fronted};
 
 // What was decided is done on the formula at `at`. A theory of more words than there is room for stays behind.
 pub fn front_rewritten(

@@ -10,9 +10,8 @@ ghost use lib.ListN.{length, take, drop};
 ghost use Rattle.text.specs.Bytes.{same};
 ghost use Rattle.text.specs.memory.Numbers.{numbersAt};
 ghost use Rattle.logic.specs.Meaning.{countFrom};
-ghost use Rattle.formula.specs.memory.Storing.{Stores, spliced, Rewritten};
+ghost use Rattle.formula.specs.memory.Storing.{Stores, spliced, Rewritten, Roomy, Fronted};
 ghost use Rattle.replay.specs.memory.Names.{indexIn, ToldClimb};
-ghost use Rattle.replay.specs.memory.Steps.{Roomy, Fronted};
 
 // Names that climb, with the last of them; or one that is not greater.
 pub enum Climb {

@@ -1,9 +1,9 @@
 -- The guard of a quantifier in memory: a turn of the loop over the elements; and what memory tells of the guard is what the definitions say of it.
 -- Assumes nothing.
-use Prim.Native.Nat.{ℕ, zero, suc, _+_, _-_, _/_, _%_, _≤_, _<_}
+use Prim.Native.Nat.{ℕ, suc, _+_, _-_, _/_, _%_, _≤_, _<_}
 use native.Mathlib.Numerals.{add-one}
 use native.Mathlib.Omega.{arith}
-use mathlib.Core.Path.{_≡_, refl, ap, _∙_}
+use mathlib.Core.Path.{_≡_, _∙_}
 use mathlib.Core.List.{List, _++_, map, append-assoc}
 use mathlib.Core.Bool.{Bool, true, false}
 use lib.ListN.{length, getD, take, drop, set, replicate, length-replicate, length-map}
@@ -20,13 +20,14 @@ use Rattle.logic.specs.Names.{known, closedBut}
 use Rattle.logic.specs.Normal.{inputsOnly}
 use Rattle.logic.specs.Meaning.{countFrom, elementsTo}
 use Rattle.logic.specs.Rules.{admits}
+use Rattle.logic.proofs.Meaning.{length-countFrom}
 use Rattle.formula.specs.memory.Words.{words}
 use Rattle.formula.specs.memory.Flags.{closedAt}
 use Rattle.formula.specs.memory.Values.{trueAt}
 use Rattle.formula.specs.memory.Admitted.{guardClosed, guardAdmits, admittedFlags}
 use Rattle.formula.proofs.memory.Naming.{Naming, wordsIn, Storable, VariableListed}
 use Rattle.formula.proofs.memory.Indexed.{closedBut-words}
-use Rattle.formula.proofs.memory.Instantiated.{quantifier-index}
+use Rattle.formula.proofs.memory.Words.{quantifier-index}
 use Rattle.formula.proofs.memory.Evaluated.{map-countFrom, admits-words}
 
 -- The code's answers.
@@ -54,10 +55,6 @@ module _ (g : ℕ → Bool) (n : ℕ) where
 
   pub flags-none : (flags : List Bool) (i : ℕ) → i ≡ n → sets flags i (flagsFrom i) ≡ flags
   flags-none flags i e = let f : n - i ≡ 0 = omega arith in rw f
-
-pub length-countFrom : (n k : ℕ) → length (countFrom k n) ≡ n
-length-countFrom zero k = refl
-length-countFrom (suc n) k = ap suc (length-countFrom n (suc k))
 
 -- the first flags are those that were stored
 pub flags-first : (g : ℕ → Bool) (n : ℕ) → n ≤ 64 → take n (sets (replicate 64 false) 0 (map g (elementsTo n))) ≡ map g (elementsTo n)

@@ -26,14 +26,6 @@ set-sets l j a [] i h = refl
 set-sets l j a (v ∷ vs) i h =
     set-sets (set l i v) j a vs (suc i) (omega arith) ∙ rw (set-comm l i j v a (λ e. omega arith))
 
-pub each-left : {A : Type 0} (Q : A → Type 0) (before after : List A) → Each Q (before ++ after) → Each Q before
-each-left Q [] after q = tt
-each-left Q (a ∷ before) after q = (q .0, each-left Q before after (q .1))
-
-pub each-right : {A : Type 0} (Q : A → Type 0) (before after : List A) → Each Q (before ++ after) → Each Q after
-each-right Q [] after q = q
-each-right Q (a ∷ before) after q = each-right Q before after (q .1)
-
 -- an index does not change when other variables are listed
 pub index-kept : (variables more names : List Name)
     → Each (λ x. indexIn (extendedBy names variables) x ≡ indexIn (extendedBy (extendedBy names variables) more) x) variables

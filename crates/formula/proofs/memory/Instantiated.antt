@@ -1,6 +1,6 @@
 -- What IQ makes of the words of a quantifier is the words of what it makes of the quantifier, where the flags are what the guard admits.
 -- Assumes nothing.
-use Prim.Native.Nat.{ℕ, zero, suc, _+_, _*_, _/_, _%_}
+use Prim.Native.Nat.{ℕ, zero, suc, _+_, _*_, _%_}
 use native.Mathlib.Nat.{zero-add}
 use native.Mathlib.Omega.{arith}
 use mathlib.Core.Path.{_≡_, refl, sym, ap, _∙_}
@@ -18,7 +18,7 @@ use Rattle.formula.specs.memory.Words.{quantifierTag, partTotal, words}
 use Rattle.formula.specs.memory.Stored.{sideOf}
 use Rattle.formula.specs.memory.Instances.{wordsWith, copies, setCount, instantiatedWords}
 use Rattle.formula.proofs.memory.Naming.{Naming, wordsIn, allWordsIn, Storable, VariableListed}
-use Rattle.formula.proofs.memory.Words.{length-words, afterFirst-words}
+use Rattle.formula.proofs.memory.Words.{quantifier-index, length-words, afterFirst-words}
 use Rattle.formula.proofs.memory.Standing.{first-stands, others-stand}
 use Rattle.formula.proofs.memory.Replaced.{words-replaced}
 
@@ -26,10 +26,6 @@ use Rattle.formula.proofs.memory.Replaced.{words-replaced}
 junction-side : (c : Side) (x : ℕ) → sideOf (eqb ((x * 16 + quantifierTag c) % 16) 8) ≡ c
 junction-side all x = let e : (x * 16 + 8) % 16 ≡ 8 = omega arith in rw (eq-eqb ((x * 16 + 8) % 16) 8 e)
 junction-side any x = let e : (x * 16 + 9) % 16 ≡ 8 → ⊥ = λ q. omega arith in rw (ne-eqb ((x * 16 + 9) % 16) 8 e)
-
-pub quantifier-index : (c : Side) (x : ℕ) → (x * 16 + quantifierTag c) / 16 ≡ x
-quantifier-index all x = omega arith
-quantifier-index any x = omega arith
 
 module _ (N : Naming) (P : Problem) (x : Name) (listed : VariableListed N x) (g f : Formula) (storable : Storable N f) where
   copy-words : (v : ℕ) → wordsWith (N .variableIndex x) v (wordsIn N f) 0 ≡ wordsIn N (replace x v f)

@@ -16,14 +16,13 @@ use Rattle.text.specs.Each.{Each}
 use Rattle.text.specs.Valid.{Small, Valid}
 use Rattle.text.specs.memory.Table.{position, tableNames, tablePredicate, problemIn}
 use Rattle.text.specs.declared.table.Table.{Table}
-use Rattle.text.proofs.Laws.{and-left, and-right, same-true}
+use Rattle.text.proofs.Laws.{and-left, and-right, same-true, each-left, each-right}
 use Rattle.text.proofs.Problem.{domain-few}
 use Rattle.text.proofs.Tables.{map-indexed, predicates-in}
 use Rattle.logic.specs.Formula.{Term, element, variable, Terms, noTerms, term, termCount, Formula, truth, atom, equal, connective, quantifier, Formulas, noParts, part}
 use Rattle.logic.specs.Names.{termKnown, termsKnown, known, allKnown}
 use Rattle.logic.specs.Limits.{termVariables, termsVariables, variables, allVariables}
 use Rattle.formula.proofs.memory.NameTable.{position-within, member-position}
-use Rattle.formula.proofs.memory.Entries.{each-left, each-right}
 use Rattle.formula.proofs.memory.Naming.{Naming, HasIndex, TermStorable, TermsStorable, Storable, AllStorable}
 
 -- a name's place

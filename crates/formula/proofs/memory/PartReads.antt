@@ -8,7 +8,7 @@ use mathlib.Core.List.{List, [], _∷_, _++_, append-nil, append-assoc}
 use mathlib.Core.Bool.{Bool, true, false, not, _&&_, and-true, and-assoc, false≢true}
 use lib.Dec.{eqb}
 use borrow.Author.Tests.{eqb-true, eqb-false, not-true}
-use Rattle.text.proofs.Laws.{and-left, and-right}
+use Rattle.text.proofs.Laws.{and-left, and-right, each-left, each-right}
 use lib.ListN.{length, drop, length-append}
 use Rattle.text.specs.Bytes.{Bytes, next}
 use Rattle.text.specs.Outcome.{done, refused}
@@ -33,7 +33,7 @@ use Rattle.formula.specs.declared.read.PartsRead.the-variants as parts
 use Rattle.formula.proofs.memory.Facts.{facts-none, facts-last}
 use Rattle.formula.proofs.memory.Words.{allWords-sizes}
 use Rattle.formula.proofs.memory.Lists.{list-refused, list-full, list-last, list-more}
-use Rattle.formula.proofs.memory.Entries.{GoesBy, each-left, each-right, entered-none, entered-alike, entered-then}
+use Rattle.formula.proofs.memory.Entries.{GoesBy, entered-none, entered-alike, entered-then}
 use Rattle.formula.proofs.memory.TermReads.{termWord-goes, termWords-goes}
 
 -- A formula's words go by the indices of its variables.

@@ -1,15 +1,16 @@
 -- Stores one after the other. Each loop and each run of calls that stores has one invariant: what is to be stored in all is what memory holds now with what is still to come.
 -- Assumes nothing.
 use Prim.Native.Nat.{ℕ, suc, _+_, _-_, _≤_, _<_}
-use native.Mathlib.Nat.{add-zero}
+use native.Mathlib.Nat.{zero-add, add-zero}
 use native.Mathlib.Numerals.{add-one}
 use native.Mathlib.Omega.{arith}
-use mathlib.Core.Path.{_≡_, refl, sym, ap, _∙_}
-use mathlib.Core.List.{List, [], _∷_, _++_, append-nil}
+use mathlib.Core.Path.{_≡_, refl, sym, ap, ap₂, _∙_}
+use mathlib.Core.List.{List, [], _∷_, _++_, append-assoc, append-nil}
 use lib.ListN.{length, getD, take, drop, set, length-append}
-use lib.Seq.{slice, sets, slice-empty, slice-cons, length-slice, length-sets, take-set-le, take-take, getD-take, getD-drop, drop-set-lt}
+use lib.Seq.{slice, sets, slice-empty, slice-cons, length-slice, length-sets, sets-eq, take-at, drop-at, length-take-le, take-set-le, take-take, getD-take, getD-drop, drop-set-lt}
 use Rattle.text.proofs.Laws.{sets-append}
-use Rattle.formula.specs.memory.Storing.{Stores, spliced, Placed, Rewritten}
+use Rattle.formula.specs.memory.Storing.{Stores, spliced, Placed, Rewritten, Roomy, Fronted}
+use Rattle.formula.proofs.memory.Standing.{drop-take}
 
 pub take-sets : (new l : List ℕ) (n i : ℕ) → n ≤ i → take n (sets l i new) ≡ take n l
 take-sets [] l n i h = refl
@@ -82,3 +83,26 @@ module _ {old : List ℕ} {at end full to : ℕ} (p : Placed old at end full to)
 
   pub place-near : {place : ℕ} {work : List ℕ} → Stores old to (slice 0 at old) place work → place ≡ to + at
   place-near s = let l = length-slice 0 at old (omega (arith, p)) in omega (arith, s .ends)
+
+-- A list that was made behind another and copied to the front.
+module _ (old made mid work : List ℕ) (next total : ℕ) where
+  pub fronted : mid ≡ sets old next made → total ≡ length made → total ≤ next → next + next ≤ length old
+      → work ≡ sets mid 0 (slice next (next + total) mid) → Fronted made next total work
+  fronted h l small room w =
+      let there : mid ≡ take next old ++ (made ++ drop (next + length made) old) = h ∙ sets-eq made old next (omega arith) ∙ append-assoc (take next old) made (drop (next + length made) old) in
+      let first : length (take next old) ≡ next = length-take-le next old (omega arith) in
+      let middle : slice next (next + total) mid ≡ made =
+      drop-take next total mid ∙ ap (take total) (ap (drop next) there ∙ drop-at (take next old) (made ++ drop (next + length made) old) next first)
+      ∙ take-at made (drop (next + length made) old) total (sym l) in
+      let long : length mid ≡ length old = ap length h ∙ length-sets old next made in
+      let here : work ≡ made ++ drop (length made) mid = w ∙ ap (sets mid 0) middle ∙ sets-eq made mid 0 (omega arith) ∙ ap (λ (k : ℕ). made ++ drop k mid) (zero-add (length made)) in
+      record { sized = l; stands = λ s. ap (take total) here ∙ take-at made (drop (length made) mid) total (sym l) }
+
+pub length-spliced : (work : List ℕ) (at end full : ℕ) (new : List ℕ) → at ≤ full → full ≤ length work → length (spliced work at end full new) ≡ at + (length new + (full - end))
+length-spliced work at end full new h l =
+    length-append (take at work) (new ++ slice end full work)
+    ∙ ap₂ _+_ (length-take-le at work (omega arith)) (length-append new (slice end full work) ∙ ap (λ (k : ℕ). length new + k) (length-slice end full work l))
+
+-- a place with room behind the list, as the stores ask for it
+pub roomy-placed : {work : List ℕ} {at full next : ℕ} → Roomy work at full next → Placed work at (at + 1) full next
+roomy-placed r = record { ordered = omega arith; ends = omega (arith, r .here); apart = r .apart; within = omega (arith, r .room); long = r .long }

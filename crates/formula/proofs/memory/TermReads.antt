@@ -15,7 +15,7 @@ use Rattle.text.specs.Reading.{Reading, token, readNumber}
 use Rattle.text.specs.Problem.{Name, isElement, isName, readName}
 use Rattle.text.specs.Each.{Each}
 use Rattle.text.specs.memory.Numbers.{SmallFound, LargeFound}
-use Rattle.text.proofs.Laws.{or-left}
+use Rattle.text.proofs.Laws.{or-left, each-left, each-right}
 use Rattle.text.proofs.Reading.{span-split, span-take}
 use Rattle.logic.proofs.Reading.{reads-term}
 use Rattle.text.proofs.Separated.{reads-shrinks, prepended, prepended-none}
@@ -37,7 +37,7 @@ use Rattle.formula.specs.memory.Entries.{Memory, memory, Entered}
 use Rattle.formula.specs.memory.Lists.{upTo}
 use Rattle.formula.specs.memory.TermReads.{NameTaken, ToldName, readElement, readVariableTerm, TermFound, ToldTerm, TermsTaken, TermsFound, ToldTerms, closedUpTo, readTermList}
 use Rattle.formula.proofs.memory.Facts.{and-swap}
-use Rattle.formula.proofs.memory.Entries.{GoesBy, each-left, each-right, entered-none, entered-alike, entered-then, entered-index}
+use Rattle.formula.proofs.memory.Entries.{GoesBy, entered-none, entered-alike, entered-then, entered-index}
 use Rattle.formula.proofs.memory.Lists.{list-refused, list-full, list-last, list-more, byte-read, byte-refused, upTo-separated}
 
 -- Words.

@@ -63,6 +63,10 @@ unfolding kindBy
 kind-quantifier all x = kind-tag 8 x (omega arith)
 kind-quantifier any x = kind-tag 9 x (omega arith)
 
+pub quantifier-index : (c : Side) (x : ℕ) → (x * 16 + quantifierTag c) / 16 ≡ x
+quantifier-index all x = omega arith
+quantifier-index any x = omega arith
+
 pub kind-atom : (p n : ℕ) → p < 256 → kindOf ((n * 256 + p) * 16 + 10) ≡ kind.Atom p n
 unfolding kindBy
 kind-atom p n h =

@@ -2,7 +2,7 @@
 use Prim.Native.Nat.{ℕ, _+_, _≤_, _<_}
 use mathlib.Core.Path.{_≡_}
 use mathlib.Core.List.{List, _++_}
-use lib.ListN.{length}
+use lib.ListN.{length, take}
 use lib.Seq.{slice, sets}
 
 -- words are stored from a place on, and the place after them is told
@@ -34,3 +34,15 @@ pub record Placed (work : List ℕ) (at end full to : ℕ) : Type 0 where
 pub record Rewritten (old : List ℕ) (at end full to : ℕ) (new : List ℕ) (total : ℕ) (work : List ℕ) : Type 0 where
   pub holds : work ≡ sets old to (spliced old at end full new)
   pub sized : total ≡ length (spliced old at end full new)
+
+-- a place of a theory, behind which there is room for the next theory
+pub record Roomy (work : List ℕ) (at full next : ℕ) : Type 0 where
+  pub here : at < full
+  pub apart : full ≤ next
+  pub room : next + next ≤ length work
+  pub long : length work ≤ 16384
+
+-- a list stands at the front, if there is room for it
+pub record Fronted (made : List ℕ) (most total : ℕ) (work : List ℕ) : Type 0 where
+  pub sized : total ≡ length made
+  pub stands : total ≤ most → take total work ≡ made

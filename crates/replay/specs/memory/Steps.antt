@@ -3,7 +3,7 @@ use Prim.Native.Nat.{ℕ, _+_, _≤_, _<_}
 use mathlib.Core.Path.{_≡_}
 use mathlib.Core.List.{List}
 use mathlib.Core.Bool.{Bool}
-use lib.ListN.{length, take, drop}
+use lib.ListN.{take, drop}
 use lib.Seq.{slice}
 use Rattle.text.specs.Outcome.{Outcome, done, refused}
 use Rattle.text.specs.declared.table.Table.{Table}
@@ -73,15 +73,3 @@ pub record Decides (table : Table) (rows : List ℕ) (rule : Rule) (words : List
   pub is : r .fit ≡ ruleFit table rows rule (drop at words)
   pub numbered : r .number ≡ misfit (ruleFit table rows rule (drop at words)) (drop at words)
   pub flagged : Flagged table rows (drop at words) (r .fit) (r .flags)
-
--- a place of a theory, behind which there is room for the next theory
-pub record Roomy (work : List ℕ) (at full next : ℕ) : Type 0 where
-  pub here : at < full
-  pub apart : full ≤ next
-  pub room : next + next ≤ length work
-  pub long : length work ≤ 16384
-
--- a list stands at the front, if there is room for it
-pub record Fronted (made : List ℕ) (most total : ℕ) (work : List ℕ) : Type 0 where
-  pub sized : total ≡ length made
-  pub stands : total ≤ most → take total work ≡ made

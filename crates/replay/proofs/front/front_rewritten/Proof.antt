@@ -2,7 +2,7 @@
 -- Assumes nothing.
 use borrow.Author.Needs.{needs}
 use native.Mathlib.Omega.{arith}
-use Rattle.replay.proofs.Regions.{fronted}
+use Rattle.formula.proofs.memory.Storing.{fronted}
 use Rattle.replay.proofs.front.front_rewritten.Statement.{statement}
 use Rattle.replay.proofs.front.front_rewritten.Tie as tie
 

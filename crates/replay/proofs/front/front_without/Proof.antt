@@ -6,7 +6,7 @@ use Prim.Native.Nat.{_+_, _<_}
 use mathlib.Core.Path.{_≡_}
 use mathlib.Core.List.{[]}
 use lib.ListN.{length}
-use Rattle.replay.proofs.Regions.{fronted, length-spliced, roomy-placed}
+use Rattle.formula.proofs.memory.Storing.{fronted, length-spliced, roomy-placed}
 use Rattle.replay.proofs.front.front_without.Statement.{statement}
 use Rattle.replay.proofs.front.front_without.Tie as tie
 

@@ -7,9 +7,8 @@ use mathlib.Core.Path.{_≡_, refl}
 use lib.Seq.{slice}
 use Rattle.text.specs.memory.Numbers.{numbersAt}
 use Rattle.formula.specs.memory.Storing.{spliced}
-use Rattle.formula.proofs.memory.Storing.{Ahead, ahead-turn, ahead-length, theory-starts, theory-ends, place-near}
+use Rattle.formula.proofs.memory.Storing.{Ahead, ahead-turn, ahead-length, theory-starts, theory-ends, place-near, roomy-placed}
 use Rattle.text.proofs.NumberPlaces.{length-numbersAt}
-use Rattle.replay.proofs.Regions.{roomy-placed}
 use Rattle.replay.proofs.names.names_behind.Statement.{statement}
 use Rattle.replay.proofs.names.names_behind.Tie as tie
 

@@ -7,7 +7,7 @@ use mathlib.Core.Path.{_≡_}
 use lib.ListN.{length}
 use Rattle.text.specs.memory.Numbers.{numbersAt}
 use Rattle.text.proofs.NumberPlaces.{length-numbersAt}
-use Rattle.replay.proofs.Regions.{fronted, length-spliced}
+use Rattle.formula.proofs.memory.Storing.{fronted, length-spliced}
 use Rattle.replay.proofs.names.with_names.Statement.{statement}
 use Rattle.replay.proofs.names.with_names.Tie as tie
 
