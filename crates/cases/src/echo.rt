@@ -1,8 +1,8 @@
 // A problem that was read, written from its table and rows: its own text again.
 use crate::say;
+use table::table::Table;
+use table::table::entry;
 use text::name::part;
-use text::table::Table;
-use text::table::entry;
 
 // A row's elements, from the number that it is.
 fn row(key: u32, arity: usize) {

@@ -1,8 +1,8 @@
 // The beginning of a derivation: the size of its heading, or 10 and the line that is malformed.
 use crate::say;
+use derivation::rule_line::grounder_end;
+use derivation::rule_line::version_end;
 use text::byte::Ended;
-use text::rule_line::grounder_end;
-use text::rule_line::version_end;
 ghost use Prim.Native.Nat.{_≤_};
 ghost use lib.ListN.{length};
 

@@ -1,9 +1,9 @@
 // The file `lines`: derivation lines, each with the number of its line and what it is read as.
 use crate::say;
 use crate::texts;
-use text::rule_line::AtPosition;
-use text::rule_line::LineRead;
-use text::rule_line::Rule;
+use derivation::rule_line::AtPosition;
+use derivation::rule_line::LineRead;
+use derivation::rule_line::Rule;
 ghost use Prim.Native.Nat.{_≤_, _<_};
 ghost use lib.ListN.{length};
 
@@ -36,7 +36,7 @@ fn one(text: &[u8], at: usize) -> usize
     requires { ⌜ at < length (now text) ⌝ }
     ensures { λ r. ⌜ (at < r) × (r ≤ length (now (text .entry))) ⌝ }
 {
-    match text::rule_line::line_at(text, at) {
+    match derivation::rule_line::line_at(text, at) {
         LineRead::Position {
             kind,
             name,

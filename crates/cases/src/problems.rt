@@ -1,7 +1,7 @@
 // A problem: the number and the line that it is refused with, or 0 and what was read.
 use crate::echo;
 use crate::say;
-use text::problem_line::read_problem;
+use problem::problem_line::read_problem;
 ghost use Prim.Native.Nat.{_≤_};
 ghost use lib.ListN.{length};
 

@@ -6,7 +6,7 @@ use crate::texts;
 use crate::texts::Section;
 use crate::texts::between;
 use crate::written;
-use replay::answer::Answer;
+use demands::answer::Answer;
 use text::byte::begins_at;
 use text::line::line_end;
 use text::name::part;

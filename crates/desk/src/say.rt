@@ -1,6 +1,6 @@
 // What is printed: lines of a word and a number.
+use demands::answer::Answer;
 use libc::STDOUT_FILENO;
-use replay::answer::Answer;
 
 fn word(w: &[u8]) {
     io::write_all(STDOUT_FILENO, w);

@@ -1,12 +1,12 @@
 // Which rules fit the formula at a place, with the truth value of what has one.
-use crate::guard::evaluate;
-use crate::word::Kind;
-use crate::word::Sign;
-use crate::word::are_elements;
-use crate::word::kind_of;
-use crate::word::peek;
-use text::rule_line::Rule;
-use text::table::Table;
+use derivation::rule_line::Rule;
+use guards::guard::evaluate;
+use table::table::Table;
+use words::word::Kind;
+use words::word::Sign;
+use words::word::are_elements;
+use words::word::kind_of;
+use words::word::peek;
 ghost use mathlib.Core.Path.{_≡_};
 ghost use Prim.Native.Nat.{_≤_, _<_};
 ghost use lib.ListN.{length, drop};

@@ -1,19 +1,19 @@
 // IQ in memory: the body of a quantifier is copied once for each element whose flag is set, with the element for the variable.
-use crate::head::junction_word;
-use crate::store::put;
-use crate::tag::ELEMENT;
-use crate::tag::EVERY;
-use crate::tag::SOME;
-use crate::tag::VARIABLE;
-use crate::walk::past;
-use crate::word::parts_of;
+use words::head::junction_word;
+use words::store::put;
+use words::tag::ELEMENT;
+use words::tag::EVERY;
+use words::tag::SOME;
+use words::tag::VARIABLE;
+use words::walk::past;
+use words::word::parts_of;
 ghost use mathlib.Core.Path.{_≡_};
 ghost use mathlib.Core.List.{[]};
 ghost use mathlib.Core.Bool.{cond};
 ghost use Prim.Native.Nat.{_+_, _≤_, _<_};
 ghost use lib.ListN.{getD, take};
 ghost use lib.Seq.{slice};
-ghost use Rattle.formula.specs.memory.Storing.{Stores, Behind};
+ghost use Rattle.words.specs.memory.Storing.{Stores, Behind};
 ghost use Rattle.formula.specs.memory.Instances.{wordWith, heldAfter, wordsWith, copies, setCount, instantiatedWords};
 
 // A word with an element for a variable, where some formulas are still to be copied as they are.

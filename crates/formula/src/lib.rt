@@ -1,26 +1,5 @@
-// Formulas in memory: read from text, walked, evaluated, rewritten and printed.
-pub mod admit;
-pub mod binding;
-pub mod clause;
-pub mod cursor;
+// The rules on a formula in memory: what a rule makes of it, decided and then written.
 pub mod decide;
-pub mod fact;
-pub mod guard;
-pub mod head;
 pub mod instance;
-pub mod leaf;
-pub mod name_table;
-pub mod opening;
-pub mod part_list;
-pub mod print;
-pub mod read;
 pub mod rewrite;
-pub mod scope;
-pub mod signature;
 pub mod simplify;
-pub mod store;
-pub mod tag;
-pub mod term;
-pub mod theory_line;
-pub mod walk;
-pub mod word;

@@ -1,15 +1,15 @@
 // A rule at a place of memory: what was decided of the formula is done, and the next theory is stored behind the theory.
 use crate::decide::Fit;
-use crate::head::truth_word;
 use crate::instance::store_instantiated;
 use crate::simplify::store_simplified;
-use crate::store::copy;
-use crate::store::put;
-use crate::walk::past;
+use words::head::truth_word;
+use words::store::copy;
+use words::store::put;
+use words::walk::past;
 ghost use Prim.Native.Nat.{_+_, _≤_, _<_};
 ghost use lib.ListN.{getD, take};
 ghost use lib.Seq.{slice};
-ghost use Rattle.formula.specs.memory.Storing.{Stores, Behind, Rewritten};
+ghost use Rattle.words.specs.memory.Storing.{Stores, Behind, Rewritten};
 ghost use Rattle.formula.specs.memory.Rewriting.{Standing, endWithin, fitWords, rewrittenWords};
 
 // What was decided of the formula from `at` to `end`; the flags are those of the elements, for IQ. A formula that nothing fits is copied.

@@ -1,17 +1,17 @@
 // SNAND and SNOR in memory: a part that decides the value takes the connective's place; otherwise the parts that change nothing are dropped.
-use crate::head::junction_word;
-use crate::head::truth_word;
-use crate::store::copy;
-use crate::store::put;
-use crate::walk::past;
-use crate::word::peek;
+use words::head::junction_word;
+use words::head::truth_word;
+use words::store::copy;
+use words::store::put;
+use words::walk::past;
+use words::word::peek;
 ghost use mathlib.Core.Path.{_≡_};
 ghost use mathlib.Core.List.{[]};
 ghost use mathlib.Core.Bool.{cond};
 ghost use Prim.Native.Nat.{_+_, _/_, _≤_, _<_};
 ghost use lib.ListN.{length, getD, drop};
 ghost use lib.Seq.{slice};
-ghost use Rattle.formula.specs.memory.Storing.{Stores, Behind};
+ghost use Rattle.words.specs.memory.Storing.{Stores, Behind};
 ghost use Rattle.formula.specs.memory.Simplified.{truthCount, wordsWithout, simplification, simplifiedWords, Fewer};
 
 // What is left of a connective: a truth value, or so many parts.

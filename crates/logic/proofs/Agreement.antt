@@ -5,9 +5,9 @@ use mathlib.Core.Path.{_≡_, refl, ap, ap₂, _∙_}
 use mathlib.Core.List.{List, _∷_}
 use mathlib.Core.Bool.{Bool, true, false, cond, _||_}
 use lib.Dec.{eqb}
-use Rattle.text.specs.Bytes.{same}
-use Rattle.text.specs.Problem.{Name, Row, Problem, isInput}
-use Rattle.text.proofs.Laws.{and-left, and-right}
+use Rattle.grammar.specs.Bytes.{same}
+use Rattle.grammar.specs.Problem.{Name, Row, Problem, isInput}
+use Rattle.grammar.proofs.Laws.{and-left, and-right}
 use Rattle.logic.specs.Formula.{Term, element, variable, Terms, noTerms, term, Formula, truth, atom, equal, connective, quantifier, Formulas, noParts, part}
 use Rattle.logic.specs.Names.{besides, termClosed, termsClosed, closed, allClosed}
 use Rattle.logic.specs.Normal.{mentionsOnly, allMentionOnly, inputsOnly}

@@ -5,7 +5,7 @@ use Prim.Native.Nat.{max}
 use mathlib.Core.Path.{_≡_, refl, ap₂}
 use mathlib.Core.List.{[], _++_}
 use mathlib.Core.Bool.{true, _&&_, false≢true}
-use Rattle.text.specs.Problem.{Name, Problem, isOutput, isName}
+use Rattle.grammar.specs.Problem.{Name, Problem, isOutput, isName}
 use Rattle.logic.specs.Formula.{element, variable, Terms, noTerms, term, Side, all, any, Formula, Formulas}
 use Rattle.logic.specs.Text.{termsSpelled, spelled, allSpelled}
 use Rattle.logic.specs.Normal.{permits, elementsOnly, hasForm, allHaveForm}

@@ -9,10 +9,10 @@ use mathlib.Core.Bool.{Bool, true, false, false≢true}
 use lib.Dec.{leb, ltb}
 use lib.ListN.{length, length-append}
 use borrow.Author.Tests.{leb-true, lt-ltb}
-use Rattle.text.specs.Bytes.{followed}
-use Rattle.text.specs.Numbers.{digits, decimal}
-use Rattle.text.specs.Problem.{Name, Problem, isOutput, predicates, declared}
-use Rattle.text.proofs.Laws.{and-left, and-right}
+use Rattle.grammar.specs.Bytes.{followed}
+use Rattle.grammar.specs.Numbers.{digits, decimal}
+use Rattle.grammar.specs.Problem.{Name, Problem, isOutput, predicates, declared}
+use Rattle.grammar.proofs.Laws.{and-left, and-right}
 use Rattle.logic.specs.Formula.{Term, element, variable, Terms, noTerms, term, termCount, Formula, Formulas, atom, size, sizes}
 use Rattle.logic.specs.Text.{termText, termTexts, textOf, textsOf}
 use Rattle.logic.specs.Names.{termKnown, termsKnown, known, allKnown}

@@ -6,11 +6,11 @@ use mathlib.Core.Path.{_≡_, refl, ap, ap₂, fun-ext}
 use mathlib.Core.List.{List, [], _∷_}
 use mathlib.Core.Bool.{Bool, true, false, cond, _&&_, _||_, or-self-left}
 use borrow.Author.Tests.{le-leb}
-use Rattle.text.specs.Bytes.{same, every}
-use Rattle.text.specs.Problem.{Name, Problem, isElement, predicates, declared}
-use Rattle.text.specs.Derivation.{Rule}
-use Rattle.text.proofs.Laws.{and-left, and-right, same-true}
-use Rattle.text.proofs.Outcome.{Allowed, allowed-weaken}
+use Rattle.grammar.specs.Bytes.{same, every}
+use Rattle.grammar.specs.Problem.{Name, Problem, isElement, predicates, declared}
+use Rattle.grammar.specs.Derivation.{Rule}
+use Rattle.grammar.proofs.Laws.{and-left, and-right, same-true}
+use Rattle.grammar.proofs.Outcome.{Allowed, allowed-weaken}
 use Rattle.logic.specs.Formula.{Term, element, variable, Terms, noTerms, term, termCount, Side, replaceTerm, replaceTerms, replace, replaces}
 use Rattle.logic.specs.Formula.{Formula, truth, atom, equal, connective, quantifier, Formulas, noParts, part}
 use Rattle.logic.specs.Names.{termKnown, termsKnown, known, besides, termClosed, termsClosed, closed}

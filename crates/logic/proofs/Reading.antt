@@ -7,17 +7,17 @@ use mathlib.Core.List.{List, [], _∷_, _++_, append-nil, append-assoc, map}
 use mathlib.Core.Bool.{Bool, true, false, not, _&&_, _||_, and-false, false≢true}
 use lib.Dec.{eqb, leb}
 use borrow.Author.Tests.{leb-true, lt-leb, ne-eqb}
-use Rattle.text.specs.Bytes.{Bytes, bytes, next, isDigit, isCapital, isSmall, isSmallOrDigit, isLetterOrDigit, joined, every}
-use Rattle.text.specs.Numbers.{decimal}
-use Rattle.text.specs.Outcome.{done}
-use Rattle.text.specs.Reading.{Reading, give, word, _⇒_, oneOf}
-use Rattle.text.specs.Problem.{Name, isName, readName}
-use Rattle.text.specs.Each.{Each}
-use Rattle.text.proofs.Laws.{and-left, and-right, or-left, or-right, each-weaken}
-use Rattle.text.proofs.Numbers.{decimal-first}
-use Rattle.text.proofs.Reading.{OneOrMore, each-some, Reads, reads-refuse, reads-give, reads-then, reads-weaken, reads-cond}
-use Rattle.text.proofs.Reading.{reads-word, reads-token, reads-number, reads-oneOf, reads-separated}
-use Rattle.text.proofs.Reading.{ReadsBack, read-token, read-number, read-separated, oneOf-word, oneOf-last, next-append}
+use Rattle.grammar.specs.Bytes.{Bytes, bytes, next, isDigit, isCapital, isSmall, isSmallOrDigit, isLetterOrDigit, joined, every}
+use Rattle.grammar.specs.Numbers.{decimal}
+use Rattle.grammar.specs.Outcome.{done}
+use Rattle.grammar.specs.Reading.{Reading, give, word, _⇒_, oneOf}
+use Rattle.grammar.specs.Problem.{Name, isName, readName}
+use Rattle.grammar.specs.Each.{Each}
+use Rattle.grammar.proofs.Laws.{and-left, and-right, or-left, or-right, each-weaken}
+use Rattle.grammar.proofs.Numbers.{decimal-first}
+use Rattle.grammar.proofs.Reading.{OneOrMore, each-some, Reads, reads-refuse, reads-give, reads-then, reads-weaken, reads-cond}
+use Rattle.grammar.proofs.Reading.{reads-word, reads-token, reads-number, reads-oneOf, reads-separated}
+use Rattle.grammar.proofs.Reading.{ReadsBack, read-token, read-number, read-separated, oneOf-word, oneOf-last, next-append}
 use Rattle.logic.specs.Formula.{Term, element, variable, Terms, noTerms, term, termsOf}
 use Rattle.logic.specs.Formula.{Side, all, any, Connective, negation, implies, impliedBy, equivalent, junction}
 use Rattle.logic.specs.Formula.{Formula, truth, atom, equal, connective, quantifier, Formulas, noParts, part, partsOf, depth, depths}

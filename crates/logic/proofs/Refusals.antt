@@ -3,10 +3,10 @@
 -- Assumes nothing.
 use Prim.Native.Nat.{ℕ, suc, zero}
 use mathlib.Core.List.{List, [], _∷_}
-use Rattle.text.specs.Reading.{Reading}
-use Rattle.text.specs.Problem.{Problem, readName}
-use Rattle.text.specs.Derivation.{Rule, SNAND, SNOR, STN, EPRED, EPROP, IQ}
-use Rattle.text.proofs.Refusals.{Refuses, never, only, refuses-mapped, outcomes, OnlyRefuses, EachRefuses, only-refuse, only-oneOf, readers}
+use Rattle.grammar.specs.Reading.{Reading}
+use Rattle.grammar.specs.Problem.{Problem, readName}
+use Rattle.grammar.specs.Derivation.{Rule, SNAND, SNOR, STN, EPRED, EPROP, IQ}
+use Rattle.grammar.proofs.Refusals.{Refuses, never, only, refuses-mapped, outcomes, OnlyRefuses, EachRefuses, only-refuse, only-oneOf, readers}
 use Rattle.logic.specs.Formula.{noTerms, term, Side, all, any, Connective, Formula, truth, atom, equal, connective, quantifier, Formulas, noParts, part}
 use Rattle.logic.specs.Reading.{readVariable, readTerm, readEquality, readArguments, readAtom, readNegation, readTwo, readParts, readJunction, readQuantifier}
 use Rattle.logic.specs.Reading.{formulaKinds, readFormula}

@@ -6,10 +6,10 @@ use mathlib.Core.Path.{_≡_, refl, ap, ap₂, _∙_}
 use mathlib.Core.List.{List, [], _∷_, map}
 use mathlib.Core.Bool.{Bool, true, false, cond, not, _||_, and-false, or-true, false≢true}
 use lib.Dec.{eqb}
-use Rattle.text.specs.Problem.{Name, Problem, given}
-use Rattle.text.specs.Derivation.{Rule}
-use Rattle.text.proofs.Laws.{and-left, and-right}
-use Rattle.text.proofs.Outcome.{Allowed, allowed-weaken}
+use Rattle.grammar.specs.Problem.{Name, Problem, given}
+use Rattle.grammar.specs.Derivation.{Rule}
+use Rattle.grammar.proofs.Laws.{and-left, and-right}
+use Rattle.grammar.proofs.Outcome.{Allowed, allowed-weaken}
 use Rattle.logic.specs.Formula.{Term, element, variable, Terms, noTerms, term, Side, all, any, junction, replace, Formula, connective, Formulas, noParts, part}
 use Rattle.logic.specs.Names.{none, besides, closedBut}
 use Rattle.logic.specs.Normal.{inputsOnly, isElementTerm, elementsOnly}

@@ -6,9 +6,9 @@ use mathlib.Core.Path.{_≡_, refl, sym, ap, ap₂, _∙_, fun-ext}
 use mathlib.Core.List.{List, _∷_}
 use mathlib.Core.Bool.{Bool, true, false, cond, true≢false}
 use lib.Dec.{eqb}
-use Rattle.text.specs.Bytes.{same}
-use Rattle.text.specs.Problem.{Name, Problem}
-use Rattle.text.proofs.Laws.{same-true}
+use Rattle.grammar.specs.Bytes.{same}
+use Rattle.grammar.specs.Problem.{Name, Problem}
+use Rattle.grammar.proofs.Laws.{same-true}
 use Rattle.logic.specs.Formula.{Term, element, variable, Terms, noTerms, term, Side, replaceTerm, replaceTerms, replace, replaces}
 use Rattle.logic.specs.Formula.{Formula, truth, atom, equal, connective, quantifier, Formulas, noParts, part}
 use Rattle.logic.specs.Meaning.{Structure, inputStructure, Environment, nowhere, bind, valueOf, valuesOf, connect, holds, truths}

@@ -5,11 +5,11 @@ use Prim.Native.Nat.{ℕ, suc, zero}
 use mathlib.Core.Path.{_≡_, refl}
 use mathlib.Core.List.{List, [], _∷_}
 use mathlib.Core.Bool.{Bool, true, false, cond, not, _&&_}
-use Rattle.text.specs.Outcome.{Outcome, done, refused}
-use Rattle.text.specs.Problem.{Problem, isInput}
-use Rattle.text.specs.Derivation.{Rule, SNAND, SNOR, STN, EPRED, EPROP, IQ}
-use Rattle.text.proofs.Laws.{and-left, and-right}
-use Rattle.text.proofs.Outcome.{Allowed, allowed-mapped, allowed-weaken, allowed-cond}
+use Rattle.grammar.specs.Outcome.{Outcome, done, refused}
+use Rattle.grammar.specs.Problem.{Problem, isInput}
+use Rattle.grammar.specs.Derivation.{Rule, SNAND, SNOR, STN, EPRED, EPROP, IQ}
+use Rattle.grammar.proofs.Laws.{and-left, and-right}
+use Rattle.grammar.proofs.Outcome.{Allowed, allowed-mapped, allowed-weaken, allowed-cond}
 use Rattle.logic.specs.Formula.{noTerms, term, Side, all, any, negation, junction, Formula, truth, atom, equal, connective, quantifier, Formulas, noParts, part}
 use Rattle.logic.specs.Names.{closedBut}
 use Rattle.logic.specs.Normal.{isElementTerm, elementsOnly}

@@ -6,8 +6,8 @@ use native.Mathlib.Nat.{le-trans, le-of-suc-le-suc, lt-of-lt-of-le}
 use native.Mathlib.Omega.{arith}
 use mathlib.Core.Path.{_≡_, refl, ap₂}
 use mathlib.Core.Bool.{Bool, true, false, _&&_, false≢true}
-use Rattle.text.specs.Problem.{Name, Problem, isInput}
-use Rattle.text.proofs.Laws.{and-left, and-right}
+use Rattle.grammar.specs.Problem.{Name, Problem, isInput}
+use Rattle.grammar.proofs.Laws.{and-left, and-right}
 use Rattle.logic.specs.Formula.{Term, Terms, Side, all, Connective, negation, implies, impliedBy, equivalent, junction}
 use Rattle.logic.specs.Formula.{Formula, truth, atom, equal, connective, quantifier, Formulas, noParts, part, depth, depths}
 use Rattle.logic.specs.Names.{known, allKnown, none, besides, closed, allClosed, namesFit}

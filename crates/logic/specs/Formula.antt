@@ -2,8 +2,8 @@
 use Prim.Native.Nat.{ℕ, suc, _+_, max}
 use mathlib.Core.List.{List, [], _∷_}
 use mathlib.Core.Bool.{Bool, cond}
-use Rattle.text.specs.Bytes.{same}
-use Rattle.text.specs.Problem.{Name}
+use Rattle.grammar.specs.Bytes.{same}
+use Rattle.grammar.specs.Problem.{Name}
 
 pub data Term : Type 0 where
   element : ℕ → Term

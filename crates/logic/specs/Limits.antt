@@ -4,9 +4,9 @@ use mathlib.Core.List.{List, [], _∷_, _++_}
 use mathlib.Core.Bool.{Bool, cond, _&&_}
 use lib.Dec.{leb}
 use lib.ListN.{length}
-use Rattle.text.specs.Sizes.{nameSize, variableCount, guardQuantifierCount, formulaCount, theorySize}
-use Rattle.text.specs.Bytes.{member, every}
-use Rattle.text.specs.Problem.{Name}
+use Rattle.grammar.specs.Sizes.{nameSize, variableCount, guardQuantifierCount, formulaCount, theorySize}
+use Rattle.grammar.specs.Bytes.{member, every}
+use Rattle.grammar.specs.Problem.{Name}
 use Rattle.logic.specs.Formula.{Term, element, variable, Terms, noTerms, term, Formula, truth, atom, equal, connective, quantifier, Formulas, noParts, part, size}
 
 -- the most quantifiers on a path, through guards and bodies alike

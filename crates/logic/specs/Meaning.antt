@@ -5,8 +5,8 @@ use mathlib.Core.List.{List, [], _∷_, map}
 use mathlib.Core.Bool.{Bool, true, false, cond, not, _&&_, _||_, Bool·beq}
 use lib.Dec.{eqb}
 use lib.ListN.{getD}
-use Rattle.text.specs.Bytes.{same}
-use Rattle.text.specs.Problem.{Name, Row, Problem, isInput, given}
+use Rattle.grammar.specs.Bytes.{same}
+use Rattle.grammar.specs.Problem.{Name, Row, Problem, isInput, given}
 use Rattle.logic.specs.Formula.{Term, element, variable, Terms, noTerms, term, Side, all, any, Connective, negation, implies, impliedBy, equivalent, junction}
 use Rattle.logic.specs.Formula.{Formula, truth, atom, equal, connective, quantifier, Formulas, noParts, part}
 

@@ -1,8 +1,8 @@
 -- Number 7: every predicate known with its arity, every element in the domain, no variable free.
 use Prim.Native.Nat.{ℕ}
 use mathlib.Core.Bool.{Bool, true, false, _&&_, _||_}
-use Rattle.text.specs.Bytes.{same}
-use Rattle.text.specs.Problem.{Name, Problem, predicates, declared, isElement}
+use Rattle.grammar.specs.Bytes.{same}
+use Rattle.grammar.specs.Problem.{Name, Problem, predicates, declared, isElement}
 use Rattle.logic.specs.Formula.{Term, element, variable, Terms, noTerms, term, termCount, Formula, truth, atom, equal, connective, quantifier, Formulas, noParts, part}
 
 abbrev pub termKnown : ℕ → Term → Bool

@@ -1,6 +1,6 @@
 -- Number 8: literals, disjunctive form and GNF; and ground clauses, number 17.
 use mathlib.Core.Bool.{Bool, true, false, _&&_}
-use Rattle.text.specs.Problem.{Name, Problem, isInput, isOutput}
+use Rattle.grammar.specs.Problem.{Name, Problem, isInput, isOutput}
 use Rattle.logic.specs.Formula.{Term, element, variable, Terms, noTerms, term, Side, all, any, Connective, negation, implies, impliedBy, equivalent, junction}
 use Rattle.logic.specs.Formula.{Formula, truth, atom, equal, connective, quantifier, Formulas, noParts, part, onSole}
 

@@ -3,9 +3,9 @@ use Prim.Native.Nat.{ℕ, suc, zero}
 use mathlib.Core.List.{List, [], _∷_, _++_}
 use mathlib.Core.Bool.{true, false, cond}
 use lib.Dec.{eqb}
-use Rattle.text.specs.Bytes.{Bytes, bytes, next, isDigit, isSmallOrDigit}
-use Rattle.text.specs.Problem.{Name, readName}
-use Rattle.text.specs.Reading.{Reading, give, refuse, _>>=_, _>>_, word, token, readNumber, _⇒_, oneOf, separated}
+use Rattle.grammar.specs.Bytes.{Bytes, bytes, next, isDigit, isSmallOrDigit}
+use Rattle.grammar.specs.Problem.{Name, readName}
+use Rattle.grammar.specs.Reading.{Reading, give, refuse, _>>=_, _>>_, word, token, readNumber, _⇒_, oneOf, separated}
 use Rattle.logic.specs.Formula.{Term, element, variable, Terms, noTerms, termsOf, Side, all, any, Connective, negation, implies, impliedBy, equivalent, junction}
 use Rattle.logic.specs.Formula.{Formula, truth, atom, equal, connective, quantifier, noParts, part, partsOf}
 use Rattle.logic.specs.Text.{truthText, connectiveSign, quantifierSign, isVariable}

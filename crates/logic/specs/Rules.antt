@@ -3,9 +3,9 @@ use Prim.Native.Nat.{ℕ, suc, zero}
 use mathlib.Core.List.{List, [], _∷_}
 use mathlib.Core.Bool.{Bool, true, false, cond, not, _&&_, _||_, Bool·beq}
 use lib.Dec.{eqb}
-use Rattle.text.specs.Outcome.{Outcome, done, refused, mapped}
-use Rattle.text.specs.Problem.{Name, Problem, isInput, given}
-use Rattle.text.specs.Derivation.{Rule, SNAND, SNOR, STN, EPRED, EPROP, IQ}
+use Rattle.grammar.specs.Outcome.{Outcome, done, refused, mapped}
+use Rattle.grammar.specs.Problem.{Name, Problem, isInput, given}
+use Rattle.grammar.specs.Derivation.{Rule, SNAND, SNOR, STN, EPRED, EPROP, IQ}
 use Rattle.logic.specs.Formula.{Term, Terms, noTerms, term, Side, all, any, negation, implies, impliedBy, equivalent, junction}
 use Rattle.logic.specs.Formula.{Formula, truth, atom, equal, connective, quantifier, Formulas, noParts, part, replace, onSole}
 use Rattle.logic.specs.Names.{closedBut}

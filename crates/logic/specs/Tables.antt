@@ -4,8 +4,8 @@ use mathlib.Core.Path.{_≡_}
 use mathlib.Core.List.{List, [], _∷_}
 use mathlib.Core.Bool.{Bool, true, false, not}
 use lib.Dec.{eqb}
-use Rattle.text.specs.Problem.{Name, Problem, isInput, given}
-use Rattle.text.specs.Derivation.{Rule, SNAND, SNOR, STN, EPRED, EPROP, IQ}
+use Rattle.grammar.specs.Problem.{Name, Problem, isInput, given}
+use Rattle.grammar.specs.Derivation.{Rule, SNAND, SNOR, STN, EPRED, EPROP, IQ}
 use Rattle.logic.specs.Formula.{Term, Terms, noTerms, term, Side, all, any, Connective, negation, junction}
 use Rattle.logic.specs.Formula.{Formula, truth, atom, equal, connective, quantifier, Formulas, noParts, part}
 use Rattle.logic.specs.Names.{closedBut}

@@ -1,9 +1,9 @@
 -- The text of a formula, and which formulas are well spelled.
 use mathlib.Core.List.{List, [], _∷_, _++_}
 use mathlib.Core.Bool.{Bool, true, false, not, _&&_}
-use Rattle.text.specs.Bytes.{Bytes, bytes, next, same, every, isSmall, isSmallOrDigit, joined}
-use Rattle.text.specs.Numbers.{decimal}
-use Rattle.text.specs.Problem.{Name, isName}
+use Rattle.grammar.specs.Bytes.{Bytes, bytes, next, same, every, isSmall, isSmallOrDigit, joined}
+use Rattle.grammar.specs.Numbers.{decimal}
+use Rattle.grammar.specs.Problem.{Name, isName}
 use Rattle.logic.specs.Formula.{Term, element, variable, Terms, noTerms, term, Side, all, any, Connective, negation, implies, impliedBy, equivalent, junction}
 use Rattle.logic.specs.Formula.{Formula, truth, atom, equal, connective, quantifier, Formulas, noParts, part, onSole}
 

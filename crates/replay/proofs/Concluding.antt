@@ -10,24 +10,24 @@ use lib.Dec.{eqb, leb}
 use lib.ListN.{length, take, drop, replicate}
 use lib.Seq.{drop-at}
 use borrow.Author.Tests.{le-leb, lt-leb, leb-true}
-use Rattle.text.specs.Sizes.{textSize, workSize}
-use Rattle.text.specs.Bytes.{Bytes, same}
-use Rattle.text.specs.Outcome.{done, refused, provided, _>>_}
-use Rattle.text.specs.Lines.{Refusal, refusal, Judged}
-use Rattle.text.proofs.Laws.{and-left, and-right}
-use Rattle.formula.specs.declared.cursor.Cursor.{Cursor}
-use Rattle.formula.specs.memory.Cursor.{firstCursor, Prints}
-use Rattle.formula.specs.memory.ClauseText.{clauseLines}
-use Rattle.formula.proofs.memory.Cursor.{print-as}
-use Rattle.replay.specs.Ground.{Ground, groundText}
-use Rattle.replay.specs.Answer.{differenceLine, grounded, replayed, checked, answerOf, workAfter, resultOf, replayResult, checkResult}
-use Rattle.replay.specs.Promise.{Promise}
-use Rattle.replay.specs.memory.Grounds.{GroundTold}
-use Rattle.replay.specs.memory.Conclusions.{agreed, concludedOf, judgedOf, shortOf, answeredOf}
+use Rattle.grammar.specs.Sizes.{textSize, workSize}
+use Rattle.grammar.specs.Bytes.{Bytes, same}
+use Rattle.grammar.specs.Outcome.{done, refused, provided, _>>_}
+use Rattle.grammar.specs.Lines.{Refusal, refusal, Judged}
+use Rattle.grammar.proofs.Laws.{and-left, and-right}
+use Rattle.demands.specs.Ground.{Ground, groundText}
+use Rattle.demands.specs.Answer.{differenceLine, grounded, replayed, checked, answerOf, workAfter, resultOf, replayResult, checkResult}
+use Rattle.demands.specs.Promise.{Promise}
+use Rattle.demands.specs.memory.Conclusions.{agreed, concludedOf, judgedOf, shortOf, answeredOf}
+use Rattle.demands.specs.declared.answer.Answer.{Answer}
+use Rattle.demands.proofs.Demands.{ground-short}
+use Rattle.printing.specs.declared.cursor.Cursor.{Cursor}
+use Rattle.printing.specs.memory.Cursor.{firstCursor, Prints}
+use Rattle.printing.specs.memory.ClauseText.{clauseLines}
+use Rattle.printing.proofs.memory.Cursor.{print-as}
+use Rattle.grounding.specs.memory.Grounds.{GroundTold}
+use Rattle.grounding.specs.declared.grounding.Grounded.{Grounded}
 use Rattle.replay.specs.memory.Answers.{Told, Concluded}
-use Rattle.replay.specs.declared.grounding.Grounded.{Grounded}
-use Rattle.replay.specs.declared.answer.Answer.{Answer}
-use Rattle.replay.proofs.Demands.{ground-short}
 use Rattle.replay.proofs.Printing.{counted-kept, counted-length, counted-same, counted-line, stored-text}
 
 -- what is told of one judgement is told of the same in other words

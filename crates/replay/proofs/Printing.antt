@@ -10,12 +10,12 @@ use mathlib.Core.Bool.{true, false, _&&_}
 use lib.Dec.{eqb}
 use lib.ListN.{length, drop}
 use lib.Seq.{sets-eq}
-use Rattle.text.specs.Sizes.{textSize}
-use Rattle.text.specs.Bytes.{Bytes, same}
-use Rattle.formula.specs.declared.cursor.Cursor.{Cursor}
-use Rattle.formula.specs.memory.Cursor.{countless, firstCursor, Prints}
-use Rattle.formula.proofs.memory.Cursor.{prints-length, prints-kept, prints-stored, prints-line, prints-same}
-use Rattle.replay.specs.Answer.{differenceLine}
+use Rattle.grammar.specs.Sizes.{textSize}
+use Rattle.grammar.specs.Bytes.{Bytes, same}
+use Rattle.demands.specs.Answer.{differenceLine}
+use Rattle.printing.specs.declared.cursor.Cursor.{Cursor}
+use Rattle.printing.specs.memory.Cursor.{countless, firstCursor, Prints}
+use Rattle.printing.proofs.memory.Cursor.{prints-length, prints-kept, prints-stored, prints-line, prints-same}
 
 fits : (text : Bytes) → length text ≤ textSize → length text < countless
 unfolding textSize

@@ -1,10 +1,1 @@
-pub mod TheoryText
-pub mod Theory
-pub mod Steps
-pub mod Replay
-pub mod Ground
-pub mod Answer
-pub mod Accepted
 pub mod memory
-pub mod Promise
-pub mod Refused

@@ -1,24 +1,24 @@
 // The jobs replay and check. They are one, but for the claim: `compare` says whether there is one.
-use crate::answer::Answer;
 use crate::clearing::clear;
-use crate::grounding::ground_theory;
-use crate::live::Layout;
-use crate::size::LEVEL_COUNT;
-use formula::cursor::Cursor;
-use formula::cursor::start;
-use formula::print::emit_lines;
-use text::table::Table;
+use demands::answer::Answer;
+use grounding::grounding::ground_theory;
+use printing::cursor::Cursor;
+use printing::cursor::start;
+use printing::print::emit_lines;
+use steps::live::Layout;
+use table::table::Table;
+use text::size::LEVEL_COUNT;
 ghost use mathlib.Core.Path.{_≡_};
 ghost use mathlib.Core.Bool.{true, cond, _&&_};
 ghost use Prim.Native.Nat.{ℕ, _≤_};
 ghost use lib.Dec.{eqb, leb};
 ghost use lib.ListN.{length};
-ghost use Rattle.formula.specs.memory.Cursor.{firstCursor, Prints};
-ghost use Rattle.formula.specs.memory.ClauseText.{clauseLines};
-ghost use Rattle.replay.specs.Answer.{resultOf, replayResult, checkResult};
-ghost use Rattle.replay.specs.Promise.{Promise};
-ghost use Rattle.replay.specs.memory.Steps.{Arranged};
-ghost use Rattle.replay.specs.memory.Conclusions.{judgedOf, shortOf, answeredOf};
+ghost use Rattle.demands.specs.Answer.{resultOf, replayResult, checkResult};
+ghost use Rattle.demands.specs.Promise.{Promise};
+ghost use Rattle.demands.specs.memory.Conclusions.{judgedOf, shortOf, answeredOf};
+ghost use Rattle.printing.specs.memory.Cursor.{firstCursor, Prints};
+ghost use Rattle.printing.specs.memory.ClauseText.{clauseLines};
+ghost use Rattle.steps.specs.memory.Steps.{Arranged};
 ghost use Rattle.replay.specs.memory.Answers.{Told, Concluded};
 
 const WORK_SIZE: usize = 16384;

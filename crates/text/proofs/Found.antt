@@ -7,12 +7,12 @@ use mathlib.Core.List.{List, [], _∷_}
 use mathlib.Core.Bool.{Bool, true, false}
 use lib.ListN.{length, drop, length-append, length-drop}
 use lib.Seq.{drop-drop}
-use Rattle.text.specs.Bytes.{Bytes, begins, span}
-use Rattle.text.specs.Outcome.{Outcome, done, refused, mapped}
-use Rattle.text.specs.Outcome as outcome
-use Rattle.text.specs.Reading.{Reading, give, _>>=_, _>>_, require, word, token, _⇒_, oneOf}
+use Rattle.grammar.specs.Bytes.{Bytes, begins, span}
+use Rattle.grammar.specs.Outcome.{Outcome, done, refused, mapped}
+use Rattle.grammar.specs.Outcome as outcome
+use Rattle.grammar.specs.Reading.{Reading, give, _>>=_, _>>_, require, word, token, _⇒_, oneOf}
+use Rattle.grammar.proofs.Reading.{begins-split}
 use Rattle.text.specs.memory.Found.{Found, Taken, Refused, WordFound}
-use Rattle.text.proofs.Reading.{begins-split}
 
 module _ {A : Type 0} {text : Bytes} {at : ℕ} where
   pub found-give : (a : A) → at ≤ length text → Found (give a) text at a at

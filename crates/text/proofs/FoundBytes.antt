@@ -7,7 +7,7 @@ use mathlib.Core.List.{[], _∷_}
 use mathlib.Core.Bool.{true, false}
 use lib.ListN.{length, drop}
 use borrow.Author.Tests.{eq-eqb, ne-eqb}
-use Rattle.text.specs.Bytes.{Bytes, next, begins}
+use Rattle.grammar.specs.Bytes.{Bytes, next, begins}
 use Rattle.text.specs.memory.Found.{WordFound}
 use Rattle.text.proofs.Places.{next-inside}
 

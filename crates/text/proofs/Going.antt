@@ -7,11 +7,11 @@ use mathlib.Core.Bool.{Bool, true, false}
 use borrow.Author.Tests.{ltb-true, ltb-false}
 use lib.Dec.{ltb}
 use lib.ListN.{length, drop, length-drop, drop-of-length-le}
-use Rattle.text.specs.Bytes.{Bytes}
-use Rattle.text.specs.Outcome.{Outcome, done, refused, _>>=_}
-use Rattle.text.specs.Reading.{Reading}
-use Rattle.text.specs.Lines.{Judged, refusal, onLine, readLines, readText}
-use Rattle.text.proofs.Lines.{readLines-step, readLines-end}
+use Rattle.grammar.specs.Bytes.{Bytes}
+use Rattle.grammar.specs.Outcome.{Outcome, done, refused, _>>=_}
+use Rattle.grammar.specs.Reading.{Reading}
+use Rattle.grammar.specs.Lines.{Judged, refusal, onLine, readLines, readText}
+use Rattle.grammar.proofs.Lines.{readLines-step, readLines-end}
 use Rattle.text.specs.memory.Going.{Going}
 
 module _ {S A : Type 0} (file : ℕ) (line : S → Reading S) (finish : S → Outcome ℕ A) (text : Bytes) where

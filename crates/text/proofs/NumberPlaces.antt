@@ -11,18 +11,18 @@ use mathlib.Core.Bool.{Bool, true, false, not, and-true, false≢true}
 use lib.Dec.{eqb}
 use lib.ListN.{length, getD, drop, set, length-append}
 use lib.Seq.{sets, drop-drop}
-use Rattle.text.specs.Bytes as bytes
-use Rattle.text.specs.Bytes.{Bytes, next, span, every, isDigit}
-use Rattle.text.specs.Numbers.{valueAfter, value, noLeadingZero, isNumber, decimal}
-use Rattle.text.specs.Outcome.{done, refused}
-use Rattle.text.specs.Reading.{token, readNumber}
+use Rattle.grammar.specs.Bytes as bytes
+use Rattle.grammar.specs.Bytes.{Bytes, next, span, every, isDigit}
+use Rattle.grammar.specs.Numbers.{valueAfter, value, noLeadingZero, isNumber, decimal}
+use Rattle.grammar.specs.Outcome.{done, refused}
+use Rattle.grammar.specs.Reading.{token, readNumber}
+use Rattle.grammar.proofs.Laws.{sets-append}
+use Rattle.grammar.proofs.Numbers.{decimal-one, decimal-more, decimal-induction}
+use Rattle.grammar.proofs.Reading.{span-split}
 use Rattle.text.specs.memory.Numbers.{beyond, digitsAt, numberAt, numberEnd, numbersAt, DigitsTold, NumberFound, ToldNumber}
 use Rattle.text.specs.declared.number.Digits.{Digits}
 use Rattle.text.specs.declared.number.Number.the-variants.{Value, Beyond, Malformed}
-use Rattle.text.proofs.Laws.{sets-append}
-use Rattle.text.proofs.Numbers.{decimal-one, decimal-more, decimal-induction}
 use Rattle.text.proofs.Places.{span-more}
-use Rattle.text.proofs.Reading.{span-split}
 
 -- Values.
 

@@ -10,7 +10,7 @@ use lib.Dec.{eqb}
 use lib.ListN.{length, getD, take, drop, length-drop, drop-of-length-le}
 use lib.Seq.{take-all, take-nil, drop-cons, drop-length}
 use borrow.Author.Tests.{eq-eqb, ne-eqb}
-use Rattle.text.specs.Bytes.{Bytes, same}
+use Rattle.grammar.specs.Bytes.{Bytes, same}
 
 module _ (s : Bytes) (at size : ℕ) where
   pub part-beyond : length s ≤ at → take (length s - length s) (drop (length s) s) ≡ take size (drop at s)

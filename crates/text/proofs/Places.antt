@@ -11,8 +11,8 @@ use mathlib.Core.Bool.{Bool, true, false, cond}
 use lib.ListN.{length, getD, drop, drop-of-length-le, List·getD-eq-default}
 use lib.Seq.{drop-cons, getD-drop}
 use borrow.Author.Tests.{eq-eqb, ne-eqb}
-use Rattle.text.specs.Bytes.{Bytes, next, span, begins}
-use Rattle.text.specs.Lines.{isLF, lineSize, linesSize, lineStart}
+use Rattle.grammar.specs.Bytes.{Bytes, next, span, begins}
+use Rattle.grammar.specs.Lines.{isLF, lineSize, linesSize, lineStart}
 
 module _ (s : Bytes) (i : ℕ) where
   pub next-within : getD s i 0 ≡ next (drop i s)

@@ -1,12 +1,1 @@
-pub mod Sizes
-pub mod Bytes
-pub mod Numbers
-pub mod Each
-pub mod Outcome
-pub mod Reading
-pub mod Lines
-pub mod Problem
-pub mod Valid
-pub mod ProblemText
-pub mod Derivation
 pub mod memory

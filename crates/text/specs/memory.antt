@@ -2,8 +2,3 @@ pub mod Classes
 pub mod Found
 pub mod Going
 pub mod Numbers
-pub mod Table
-pub mod RuleLines
-pub mod Declarations
-pub mod Rows
-pub mod ProblemLines

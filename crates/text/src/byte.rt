@@ -2,7 +2,7 @@
 ghost use mathlib.Core.Path.{_≡_};
 ghost use Prim.Native.Nat.{_+_, _≤_};
 ghost use lib.ListN.{length, drop};
-ghost use Rattle.text.specs.Bytes.{next, span, begins, isDigit, isCapital, isSmall, isPrintable};
+ghost use Rattle.grammar.specs.Bytes.{next, span, begins, isDigit, isCapital, isSmall, isPrintable};
 ghost use Rattle.text.specs.memory.Classes.{inClass};
 
 // A class of bytes.

@@ -1,12 +1,7 @@
-// What stands in the texts: bytes, numbers, lines, the problem and derivation lines.
+// What stands in a text: bytes, numbers, names, lines and the refused line; and the statement's sizes.
 pub mod byte;
 pub mod cell;
-pub mod declaration;
 pub mod line;
 pub mod name;
 pub mod number;
-pub mod problem_line;
-pub mod reader;
-pub mod rows;
-pub mod rule_line;
-pub mod table;
+pub mod size;

@@ -3,7 +3,7 @@ ghost use mathlib.Core.Path.{_≡_};
 ghost use Prim.Native.Nat.{_+_, _≤_};
 ghost use lib.ListN.{length, drop};
 ghost use mathlib.Core.Bool.{cond};
-ghost use Rattle.text.specs.Lines.{isLF, lineSize, lineStart, refusedLine};
+ghost use Rattle.grammar.specs.Lines.{isLF, lineSize, lineStart, refusedLine};
 
 // The place of the next LF, or the end.
 pub fn line_end(text: &[u8], at: usize) -> usize

@@ -1,7 +1,7 @@
 // Names: parts of a text, compared byte by byte.
 ghost use mathlib.Core.Path.{_≡_};
 ghost use lib.ListN.{take, drop};
-ghost use Rattle.text.specs.Bytes.{same};
+ghost use Rattle.grammar.specs.Bytes.{same};
 
 // The bytes from a place on, as many as are asked for and stand there.
 pub fn part(text: &[u8], at: usize, size: usize) -> &[u8]

@@ -7,8 +7,8 @@ ghost use mathlib.Core.Bool.{true};
 ghost use Prim.Native.Nat.{_+_, _-_, _*_, _≤_, _<_, _^_, min};
 ghost use lib.ListN.{length};
 ghost use lib.Seq.{sets};
-ghost use Rattle.text.specs.Bytes.{isDigit};
-ghost use Rattle.text.specs.Numbers.{isNumber, decimal};
+ghost use Rattle.grammar.specs.Bytes.{isDigit};
+ghost use Rattle.grammar.specs.Numbers.{isNumber, decimal};
 ghost use Rattle.text.specs.memory.Numbers.{beyond, digitsAt, numberEnd, DigitsTold, ToldNumber};
 
 // Larger than every number that is asked for: numbers from here on are not told apart.

@@ -8,33 +8,33 @@ use mathlib.Core.Bool.{Bool, true, false, cond, not, _&&_, and-true}
 use borrow.Author.Tests.{ne-eqb, lt-ltb}
 use lib.Dec.{eqb, ltb}
 use lib.ListN.{getD, drop, replicate}
-use Rattle.text.specs.Bytes.{Bytes}
-use Rattle.text.specs.Outcome.{Outcome, done, refused}
-use Rattle.text.specs.Problem.{Name, Problem, isInput, given}
-use Rattle.text.specs.Valid.{Valid}
-use Rattle.text.specs.memory.Table.{position, tableNames, problemIn}
-use Rattle.text.specs.memory.RuleLines.{ruleOf}
-use Rattle.text.specs.declared.table.Table.{Table}
-use Rattle.text.specs.declared.rule_line.Rule.{Rule}
-use Rattle.text.specs.declared.rule_line.Rule.the-variants.{Snand, Snor, Stn, Epred, Eprop, Iq}
-use Rattle.text.proofs.Tables.{isInput-in}
+use Rattle.grammar.specs.Bytes.{Bytes}
+use Rattle.grammar.specs.Outcome.{Outcome, done, refused}
+use Rattle.grammar.specs.Problem.{Name, Problem, isInput, given}
+use Rattle.grammar.specs.Valid.{Valid}
 use Rattle.logic.specs.Formula.{Term, Terms, noTerms, term, termCount, Side, all, any, Connective, negation, implies, impliedBy, equivalent, junction}
 use Rattle.logic.specs.Formula.{Formula, truth, atom, equal, connective, quantifier, Formulas, noParts, part, depth}
 use Rattle.logic.specs.Names.{known, closedBut}
 use Rattle.logic.specs.Normal.{mentionsOnly, isElementTerm, elementsOnly}
 use Rattle.logic.specs.Meaning.{nowhere, valueOf, valuesOf, unit, holds}
 use Rattle.logic.specs.Rules.{onTruth, simplified, simplify, negate, looked, compared, evaluatePredicate, evaluateProposition, instantiated, instantiate, apply}
-use Rattle.formula.specs.memory.Kinds.{kindOf, elementsAt}
-use Rattle.formula.specs.memory.Words.{partTotal, words}
-use Rattle.formula.specs.memory.Values.{trueAt}
+use Rattle.table.specs.memory.Table.{position, tableNames, problemIn}
+use Rattle.table.specs.declared.table.Table.{Table}
+use Rattle.table.proofs.Tables.{isInput-in}
+use Rattle.derivation.specs.memory.RuleLines.{ruleOf}
+use Rattle.derivation.specs.declared.rule_line.Rule.{Rule}
+use Rattle.derivation.specs.declared.rule_line.Rule.the-variants.{Snand, Snor, Stn, Epred, Eprop, Iq}
+use Rattle.words.specs.memory.Kinds.{kindOf, elementsAt}
+use Rattle.words.specs.memory.Words.{partTotal, words}
+use Rattle.words.specs.declared.word.Kind.{Kind}
+use Rattle.words.specs.declared.word.Kind.the-variants as kind
+use Rattle.words.proofs.memory.Naming.{Naming, wordsIn, Storable}
+use Rattle.words.proofs.memory.Words.{elements-words, signOf, kind-truth, kind-atom, kind-equal, kind-connective, kind-quantifier}
+use Rattle.guards.specs.memory.Values.{trueAt}
+use Rattle.guards.proofs.memory.Evaluated.{matches-nowhere, value-words}
 use Rattle.formula.specs.memory.Deciding.{junctionFit, negatedFit, negationFit, quantifierFit, valueFit, inputFit, evaluationFit, ruleFit}
-use Rattle.formula.specs.declared.word.Kind.{Kind}
-use Rattle.formula.specs.declared.word.Kind.the-variants as kind
 use Rattle.formula.specs.declared.decide.Fit.{Fit}
 use Rattle.formula.specs.declared.decide.Fit.the-variants as fit
-use Rattle.formula.proofs.memory.Naming.{Naming, wordsIn, Storable}
-use Rattle.formula.proofs.memory.Words.{elements-words, signOf, kind-truth, kind-atom, kind-equal, kind-connective, kind-quantifier}
-use Rattle.formula.proofs.memory.Evaluated.{matches-nowhere, value-words}
 
 -- the formula is an `&`, if every part counts, or an `|`, and its parts are simplified
 pub record JunctionFits (f : Formula) (every : Bool) (made : Outcome ℕ Formula) : Type 0 where

@@ -7,11 +7,11 @@ use mathlib.Core.Bool.{Bool, true, false}
 use lib.ListN.{getD, drop, replicate}
 use lib.Seq.{drop-drop, getD-drop}
 use Rattle.text.proofs.Places.{next-within}
-use Rattle.text.specs.declared.table.Table.{Table}
-use Rattle.formula.specs.memory.Kinds.{kindOf, elementsAt}
-use Rattle.formula.specs.memory.Values.{trueAt}
+use Rattle.table.specs.declared.table.Table.{Table}
+use Rattle.words.specs.memory.Kinds.{kindOf, elementsAt}
+use Rattle.words.specs.declared.word.Kind.{Kind}
+use Rattle.guards.specs.memory.Values.{trueAt}
 use Rattle.formula.specs.memory.Deciding.{valueFit}
-use Rattle.formula.specs.declared.word.Kind.{Kind}
 use Rattle.formula.specs.declared.decide.Fit.the-variants.{Value, Misfit}
 
 -- The kinds of the word at a place and of the next.

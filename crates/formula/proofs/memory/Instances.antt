@@ -11,13 +11,13 @@ use borrow.Author.Tests.{eq-eqb, ne-eqb}
 use lib.Dec.{eqb}
 use lib.ListN.{length, getD, take, length-append, length-take, length-drop}
 use lib.Seq.{slice, slice-empty, slice-cons, drop-drop}
-use Rattle.formula.specs.memory.Kinds.{kindOf, partCount, skip}
 use Rattle.logic.specs.Formula.{junction}
-use Rattle.formula.specs.memory.Words.{connectiveTag}
-use Rattle.formula.specs.memory.Stored.{sideOf, afterFirst}
-use Rattle.formula.specs.memory.Storing.{Stores}
+use Rattle.words.specs.memory.Kinds.{kindOf, partCount, skip}
+use Rattle.words.specs.memory.Words.{connectiveTag}
+use Rattle.words.specs.memory.Stored.{sideOf, afterFirst}
+use Rattle.words.specs.memory.Storing.{Stores}
+use Rattle.words.proofs.memory.Storing.{Ahead, ahead-start, ahead-turn, ahead-end, ahead-slice}
 use Rattle.formula.specs.memory.Instances.{wordWith, heldAfter, wordsWith, copies, setCount, instantiatedWords}
-use Rattle.formula.proofs.memory.Storing.{Ahead, ahead-start, ahead-turn, ahead-end, ahead-slice}
 
 -- One word.
 

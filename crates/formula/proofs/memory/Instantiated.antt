@@ -10,16 +10,16 @@ use borrow.Author.Tests.{eq-eqb, ne-eqb}
 use lib.Dec.{eqb}
 use lib.ListN.{length, getD, drop}
 use lib.Seq.{slice}
-use Rattle.text.specs.Problem.{Name, Problem}
+use Rattle.grammar.specs.Problem.{Name, Problem}
 use Rattle.logic.specs.Formula.{Side, all, any, Formula, quantifier, Formulas, part, size, replace}
 use Rattle.logic.specs.Meaning.{countFrom, elementsTo}
 use Rattle.logic.specs.Rules.{admits, instances, instantiated}
-use Rattle.formula.specs.memory.Words.{quantifierTag, partTotal, words}
-use Rattle.formula.specs.memory.Stored.{sideOf}
+use Rattle.words.specs.memory.Words.{quantifierTag, partTotal, words}
+use Rattle.words.specs.memory.Stored.{sideOf}
+use Rattle.words.proofs.memory.Naming.{Naming, wordsIn, allWordsIn, Storable, VariableListed}
+use Rattle.words.proofs.memory.Words.{quantifier-index, length-words, afterFirst-words}
+use Rattle.words.proofs.memory.Standing.{first-stands, others-stand}
 use Rattle.formula.specs.memory.Instances.{wordsWith, copies, setCount, instantiatedWords}
-use Rattle.formula.proofs.memory.Naming.{Naming, wordsIn, allWordsIn, Storable, VariableListed}
-use Rattle.formula.proofs.memory.Words.{quantifier-index, length-words, afterFirst-words}
-use Rattle.formula.proofs.memory.Standing.{first-stands, others-stand}
 use Rattle.formula.proofs.memory.Replaced.{words-replaced}
 
 -- `&` for `!`, `|` for `?`

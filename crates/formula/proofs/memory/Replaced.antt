@@ -9,18 +9,18 @@ use mathlib.Core.List.{List, _∷_, _++_, append-assoc}
 use mathlib.Core.Bool.{Bool, true, false, cond, and-true, or-false}
 use borrow.Author.Tests.{eq-eqb, ne-eqb, eqb-true, eqb-false}
 use lib.Dec.{eqb}
-use Rattle.text.specs.Bytes.{same}
-use Rattle.text.specs.Problem.{Name}
+use Rattle.grammar.specs.Bytes.{same}
+use Rattle.grammar.specs.Problem.{Name}
 use Rattle.logic.specs.Formula.{Term, element, variable, Terms, noTerms, term, termCount, Side, all, any, Connective, negation, implies, impliedBy, equivalent, junction}
 use Rattle.logic.specs.Formula.{Formula, truth, atom, equal, connective, quantifier, Formulas, noParts, part, replaceTerm, replaceTerms, replace, replaces}
-use Rattle.formula.specs.memory.Kinds.{kindOf, partCount}
-use Rattle.formula.specs.memory.Words.{truthWord, connectiveTag, quantifierTag, partTotal, termWord, words}
-use Rattle.formula.specs.memory.Instances.{wordWith, heldAfter, wordsWith}
-use Rattle.formula.specs.declared.word.Kind.{Kind}
 use Rattle.logic.proofs.Kept.{termCount-replace}
-use Rattle.formula.proofs.memory.Naming.{Naming, wordsIn, allWordsIn, termWordsIn, TermStorable, TermsStorable, Storable, AllStorable, VariableListed}
-use Rattle.formula.proofs.memory.Words.{kind-truth, kind-equal, kind-connective, kind-quantifier, kind-atom, kind-term}
-use Rattle.formula.proofs.memory.Indexed.{same-indexed}
+use Rattle.words.specs.memory.Kinds.{kindOf, partCount}
+use Rattle.words.specs.memory.Words.{truthWord, connectiveTag, quantifierTag, partTotal, termWord, words}
+use Rattle.words.specs.declared.word.Kind.{Kind}
+use Rattle.words.proofs.memory.Naming.{Naming, wordsIn, allWordsIn, termWordsIn, TermStorable, TermsStorable, Storable, AllStorable, VariableListed}
+use Rattle.words.proofs.memory.Words.{kind-truth, kind-equal, kind-connective, kind-quantifier, kind-atom, kind-term}
+use Rattle.guards.proofs.memory.Indexed.{same-indexed}
+use Rattle.formula.specs.memory.Instances.{wordWith, heldAfter, wordsWith}
 
 eqb-tagged : (a b tag : ℕ) → eqb (a * 16 + tag) (b * 16 + tag) ≡ eqb a b
 eqb-tagged a b tag = pick (eqb a b) refl

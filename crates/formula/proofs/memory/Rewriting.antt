@@ -7,31 +7,31 @@ use mathlib.Core.List.{List, _++_, map}
 use mathlib.Core.Bool.{Bool, true, false, cond}
 use lib.ListN.{length, getD, take, drop, length-take, length-drop, length-append}
 use lib.Seq.{slice, length-take-le, take-take, take-append-seam, take-append-add, drop-append-seam, drop-append-add}
-use Rattle.text.specs.Bytes.{Bytes}
-use Rattle.text.specs.Outcome.{Outcome, done, refused}
-use Rattle.text.specs.Problem.{Name, Problem}
-use Rattle.text.specs.Valid.{Valid}
-use Rattle.text.specs.memory.Table.{position, tableNames, problemIn}
-use Rattle.text.specs.memory.RuleLines.{ruleOf}
-use Rattle.text.specs.declared.table.Table.{Table}
-use Rattle.text.specs.declared.rule_line.Rule.{Rule}
+use Rattle.grammar.specs.Bytes.{Bytes}
+use Rattle.grammar.specs.Outcome.{Outcome, done, refused}
+use Rattle.grammar.specs.Problem.{Name, Problem}
+use Rattle.grammar.specs.Valid.{Valid}
 use Rattle.logic.specs.Formula.{Side, Formula, truth, quantifier, size}
 use Rattle.logic.specs.Names.{known, closedBut}
 use Rattle.logic.specs.Meaning.{elementsTo}
 use Rattle.logic.specs.Rules.{simplified, admits, instantiated, apply}
-use Rattle.formula.specs.memory.Kinds.{skip}
-use Rattle.formula.specs.memory.Words.{words}
+use Rattle.table.specs.memory.Table.{position, tableNames, problemIn}
+use Rattle.table.specs.declared.table.Table.{Table}
+use Rattle.derivation.specs.memory.RuleLines.{ruleOf}
+use Rattle.derivation.specs.declared.rule_line.Rule.{Rule}
+use Rattle.words.specs.memory.Kinds.{skip}
+use Rattle.words.specs.memory.Words.{words}
+use Rattle.words.specs.memory.Storing.{Stores, spliced, Rewritten}
+use Rattle.words.proofs.memory.Kinds.{skip-turn}
+use Rattle.words.proofs.memory.Naming.{Naming, wordsIn, Storable}
+use Rattle.words.proofs.memory.Words.{length-words, skip-first}
+use Rattle.words.proofs.memory.Standing.{drop-take}
+use Rattle.words.proofs.memory.Storing.{Ahead, ahead-read, ahead-slice}
 use Rattle.formula.specs.memory.Instances.{instantiatedWords}
-use Rattle.formula.specs.memory.Storing.{Stores, spliced, Rewritten}
 use Rattle.formula.specs.memory.Rewriting.{endWithin, fitWords, rewrittenWords, Standing}
 use Rattle.formula.specs.memory.Deciding.{ruleFit}
 use Rattle.formula.specs.declared.decide.Fit.{Fit}
 use Rattle.formula.specs.declared.decide.Fit.the-variants as fit
-use Rattle.formula.proofs.memory.Kinds.{skip-turn}
-use Rattle.formula.proofs.memory.Naming.{Naming, wordsIn, Storable}
-use Rattle.formula.proofs.memory.Words.{length-words, skip-first}
-use Rattle.formula.proofs.memory.Standing.{drop-take}
-use Rattle.formula.proofs.memory.Storing.{Ahead, ahead-read, ahead-slice}
 use Rattle.formula.proofs.memory.Simplified.{simplified-near}
 use Rattle.formula.proofs.memory.Instances.{instantiated-near}
 use Rattle.formula.proofs.memory.Simplification.{simplified-stands}

@@ -14,14 +14,14 @@ use Rattle.logic.specs.Formula.{Side, all, any, Connective, negation, implies, 
 use Rattle.logic.specs.Formula.{Formula, truth, atom, equal, connective, quantifier, Formulas, noParts, part, size}
 use Rattle.logic.specs.Meaning.{unit}
 use Rattle.logic.specs.Rules.{isTruth, hasTruth, without, unlessNone, simplified}
-use Rattle.formula.specs.memory.Kinds.{skip}
-use Rattle.formula.specs.memory.Words.{truthWord, connectiveTag, quantifierTag, partTotal, words}
-use Rattle.formula.specs.memory.Stored.{sideOf}
+use Rattle.words.specs.memory.Kinds.{skip}
+use Rattle.words.specs.memory.Words.{truthWord, connectiveTag, quantifierTag, partTotal, words}
+use Rattle.words.specs.memory.Stored.{sideOf}
+use Rattle.words.proofs.memory.Naming.{Naming, wordsIn, allWordsIn}
+use Rattle.words.proofs.memory.Words.{length-words, skip-first, afterFirst-words}
+use Rattle.words.proofs.memory.Standing.{first-stands, others-stand}
 use Rattle.formula.specs.memory.Simplified.{startsTruth, truthCount, wordsWithout, simplification, simplifiedBy, simplifiedWords}
 use Rattle.formula.specs.declared.simplify.Simplified.the-variants.{Value, Parts}
-use Rattle.formula.proofs.memory.Naming.{Naming, wordsIn, allWordsIn}
-use Rattle.formula.proofs.memory.Words.{length-words, skip-first, afterFirst-words}
-use Rattle.formula.proofs.memory.Standing.{first-stands, others-stand}
 
 -- the first word of a formula that is no truth value
 not-truth : (b : Bool) (w : ℕ) → 2 ≤ w → eqb w (truthWord b) ≡ false

@@ -11,17 +11,17 @@ use borrow.Author.Tests.{eq-eqb, ne-eqb}
 use lib.Dec.{eqb}
 use lib.ListN.{length, getD, take, drop, length-append, length-take, length-drop}
 use lib.Seq.{slice, drop-drop, take-take}
-use Rattle.text.proofs.Places.{next-within}
-use Rattle.formula.specs.memory.Kinds.{skip}
 use Rattle.logic.specs.Formula.{junction}
-use Rattle.formula.specs.memory.Words.{truthWord, connectiveTag}
-use Rattle.formula.specs.memory.Stored.{sideOf, afterFirst}
-use Rattle.formula.specs.memory.Storing.{Stores}
+use Rattle.text.proofs.Places.{next-within}
+use Rattle.words.specs.memory.Kinds.{skip}
+use Rattle.words.specs.memory.Words.{truthWord, connectiveTag}
+use Rattle.words.specs.memory.Stored.{sideOf, afterFirst}
+use Rattle.words.specs.memory.Storing.{Stores}
+use Rattle.words.proofs.memory.Storing.{Ahead, ahead-start, ahead-turn, ahead-end, ahead-slice}
+use Rattle.words.proofs.memory.Standing.{drop-take}
 use Rattle.formula.specs.memory.Simplified.{startsTruth, truthCount, wordsWithout, simplification, simplifiedBy, simplifiedWords}
 use Rattle.formula.specs.declared.simplify.Simplified.{Simplified}
 use Rattle.formula.specs.declared.simplify.Simplified.the-variants.{Value, Parts}
-use Rattle.formula.proofs.memory.Storing.{Ahead, ahead-start, ahead-turn, ahead-end, ahead-slice}
-use Rattle.formula.proofs.memory.Standing.{drop-take}
 
 -- One part more.
 

@@ -4,15 +4,15 @@ use mathlib.Core.List.{List}
 use mathlib.Core.Bool.{Bool, true, false, cond, not, Bool·beq}
 use lib.Dec.{eqb, ltb}
 use lib.ListN.{getD, drop, replicate}
-use Rattle.text.specs.declared.table.Table.{Table}
-use Rattle.text.specs.declared.rule_line.Rule.{Rule}
-use Rattle.text.specs.declared.rule_line.Rule.the-variants.{Snand, Snor, Stn, Epred, Eprop, Iq}
-use Rattle.formula.specs.memory.Kinds.{kindOf, elementsAt}
-use Rattle.formula.specs.memory.Values.{trueAt}
-use Rattle.formula.specs.declared.word.Sign.{Sign}
-use Rattle.formula.specs.declared.word.Sign.the-variants as sign
-use Rattle.formula.specs.declared.word.Kind.{Kind}
-use Rattle.formula.specs.declared.word.Kind.the-variants as kind
+use Rattle.table.specs.declared.table.Table.{Table}
+use Rattle.derivation.specs.declared.rule_line.Rule.{Rule}
+use Rattle.derivation.specs.declared.rule_line.Rule.the-variants.{Snand, Snor, Stn, Epred, Eprop, Iq}
+use Rattle.words.specs.memory.Kinds.{kindOf, elementsAt}
+use Rattle.words.specs.declared.word.Sign.{Sign}
+use Rattle.words.specs.declared.word.Sign.the-variants as sign
+use Rattle.words.specs.declared.word.Kind.{Kind}
+use Rattle.words.specs.declared.word.Kind.the-variants as kind
+use Rattle.guards.specs.memory.Values.{trueAt}
 use Rattle.formula.specs.declared.decide.Fit.{Fit}
 use Rattle.formula.specs.declared.decide.Fit.the-variants.{Value, Junction, Quantifier, Misfit}
 

@@ -3,10 +3,10 @@ use Prim.Native.Nat.{ℕ, zero, suc, _+_, _*_, _/_, _%_}
 use mathlib.Core.List.{List, [], _∷_, _++_}
 use mathlib.Core.Bool.{Bool, cond, _||_}
 use lib.Dec.{eqb}
-use Rattle.formula.specs.memory.Kinds.{kindOf, partCount}
 use Rattle.logic.specs.Formula.{junction}
-use Rattle.formula.specs.memory.Stored.{sideOf, afterFirst}
-use Rattle.formula.specs.memory.Words.{connectiveTag}
+use Rattle.words.specs.memory.Kinds.{kindOf, partCount}
+use Rattle.words.specs.memory.Stored.{sideOf, afterFirst}
+use Rattle.words.specs.memory.Words.{connectiveTag}
 
 -- a word with v for x, where `held` formulas are still to be copied as they are
 unfoldable pub wordWith : ℕ → ℕ → ℕ → ℕ → ℕ

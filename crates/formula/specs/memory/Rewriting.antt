@@ -4,8 +4,8 @@ use mathlib.Core.List.{List, [], _∷_}
 use mathlib.Core.Bool.{Bool}
 use lib.ListN.{length, getD}
 use lib.Seq.{slice}
-use Rattle.formula.specs.memory.Kinds.{skip}
-use Rattle.formula.specs.memory.Words.{truthWord}
+use Rattle.words.specs.memory.Kinds.{skip}
+use Rattle.words.specs.memory.Words.{truthWord}
 use Rattle.formula.specs.memory.Instances.{instantiatedWords}
 use Rattle.formula.specs.memory.Simplified.{simplifiedWords}
 use Rattle.formula.specs.declared.decide.Fit.{Fit}

@@ -4,10 +4,10 @@ use mathlib.Core.List.{List, [], _∷_, _++_}
 use mathlib.Core.Bool.{Bool, cond, not}
 use lib.Dec.{eqb}
 use lib.ListN.{getD, take}
-use Rattle.formula.specs.memory.Kinds.{skip}
 use Rattle.logic.specs.Formula.{junction}
-use Rattle.formula.specs.memory.Words.{truthWord, connectiveTag}
-use Rattle.formula.specs.memory.Stored.{sideOf, afterFirst}
+use Rattle.words.specs.memory.Kinds.{skip}
+use Rattle.words.specs.memory.Words.{truthWord, connectiveTag}
+use Rattle.words.specs.memory.Stored.{sideOf, afterFirst}
 use Rattle.formula.specs.declared.simplify.Simplified.{Simplified}
 use Rattle.formula.specs.declared.simplify.Simplified.the-variants.{Value, Parts}
 

@@ -4,13 +4,13 @@ use mathlib.Core.Path.{_≡_}
 use mathlib.Core.List.{List}
 use mathlib.Core.Bool.{Bool}
 use lib.ListN.{length}
-use Rattle.text.specs.Sizes.{textSize}
-use Rattle.text.specs.Bytes.{Bytes}
-use Rattle.text.specs.Lines.{Judged}
-use Rattle.replay.specs.Ground.{Ground, groundText}
-use Rattle.replay.specs.Answer.{answerOf, outputAfter}
-use Rattle.replay.specs.memory.Conclusions.{concludedOf}
-use Rattle.replay.specs.declared.answer.Answer.{Answer}
+use Rattle.grammar.specs.Sizes.{textSize}
+use Rattle.grammar.specs.Bytes.{Bytes}
+use Rattle.grammar.specs.Lines.{Judged}
+use Rattle.demands.specs.Ground.{Ground, groundText}
+use Rattle.demands.specs.Answer.{answerOf, outputAfter}
+use Rattle.demands.specs.memory.Conclusions.{concludedOf}
+use Rattle.demands.specs.declared.answer.Answer.{Answer}
 
 -- the answer, and the output after
 pub record Told (judged : Judged Ground) (output : List ℕ) (r : Answer) (new : List ℕ) : Type 0 where

@@ -1,7 +1,7 @@
 -- The code's classes of bytes.
 use Prim.Native.Nat.{ℕ}
 use mathlib.Core.Bool.{Bool}
-use Rattle.text.specs.Bytes.{isDigit, isSmallOrDigit, isLetterOrDigit, isPrintable}
+use Rattle.grammar.specs.Bytes.{isDigit, isSmallOrDigit, isLetterOrDigit, isPrintable}
 use Rattle.text.specs.declared.byte.Class.{Class}
 use Rattle.text.specs.declared.byte.Class.the-variants.{Digit, SmallOrDigit, LetterOrDigit, Printable}
 

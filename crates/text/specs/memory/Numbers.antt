@@ -3,10 +3,10 @@ use Prim.Native.Nat.{ℕ, zero, suc, _+_, _≤_, _<_, min, max}
 use mathlib.Core.Path.{_≡_}
 use mathlib.Core.List.{List, [], _∷_}
 use lib.ListN.{length, drop}
-use Rattle.text.specs.Bytes.{Bytes, span, isDigit}
-use Rattle.text.specs.Numbers.{value}
-use Rattle.text.specs.Outcome.{done, refused}
-use Rattle.text.specs.Reading.{readNumber}
+use Rattle.grammar.specs.Bytes.{Bytes, span, isDigit}
+use Rattle.grammar.specs.Numbers.{value}
+use Rattle.grammar.specs.Outcome.{done, refused}
+use Rattle.grammar.specs.Reading.{readNumber}
 use Rattle.text.specs.declared.number.Digits.{Digits}
 use Rattle.text.specs.declared.number.Number.{Number}
 use Rattle.text.specs.declared.number.Number.the-variants.{Value, Beyond, Malformed}

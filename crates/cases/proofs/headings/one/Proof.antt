@@ -2,8 +2,8 @@
 -- Assumes nothing.
 use borrow.Author.Needs.{needs}
 use mathlib.Core.Path.{subst}
-use Rattle.text.specs.Derivation.{readVersion}
-use Rattle.text.specs.memory.RuleLines.{ToldEnd}
+use Rattle.grammar.specs.Derivation.{readVersion}
+use Rattle.derivation.specs.memory.RuleLines.{ToldEnd}
 use Rattle.cases.proofs.headings.one.Statement.{statement}
 use Rattle.cases.proofs.headings.one.Tie as tie
 

@@ -3,8 +3,8 @@
 use borrow.Author.Needs.{needs}
 use native.Mathlib.Omega.{arith}
 use mathlib.Core.Path.{subst}
-use Rattle.text.specs.Derivation.{readLine}
-use Rattle.text.specs.memory.RuleLines.{ToldLine}
+use Rattle.grammar.specs.Derivation.{readLine}
+use Rattle.derivation.specs.memory.RuleLines.{ToldLine}
 use Rattle.cases.proofs.lines.one.Statement.{statement}
 use Rattle.cases.proofs.lines.one.Tie as tie
 

@@ -4,8 +4,8 @@ use borrow.Author.Needs.{needs}
 use mathlib.Core.Path.{ap, ap₂, _∙_}
 use mathlib.Core.Bool.{true, false}
 use lib.ListN.{drop}
+use Rattle.words.specs.declared.word.Kind.{Kind}
 use Rattle.formula.specs.memory.Deciding.{junctionFit, negationFit, quantifierFit, evaluationFit}
-use Rattle.formula.specs.declared.word.Kind.{Kind}
 use Rattle.formula.proofs.memory.Deciding.{kind-here, kind-next}
 use Rattle.formula.proofs.decide.rule_fit.Statement.{statement}
 use Rattle.formula.proofs.decide.rule_fit.Tie as tie

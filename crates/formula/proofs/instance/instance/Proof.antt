@@ -4,8 +4,8 @@ use borrow.Author.Needs.{needs}
 use native.Mathlib.Omega.{arith}
 use Prim.Native.Nat.{_-_, _*_, _≤_}
 use lib.Seq.{slice, length-slice}
+use Rattle.words.proofs.memory.Storing.{Ahead, ahead-start, ahead-turn, ahead-end, ahead-length, ahead-read}
 use Rattle.formula.specs.memory.Instances.{wordsWith}
-use Rattle.formula.proofs.memory.Storing.{Ahead, ahead-start, ahead-turn, ahead-end, ahead-length, ahead-read}
 use Rattle.formula.proofs.memory.Instances.{wordsWith-next, wordsWith-none, length-wordsWith}
 use Rattle.formula.proofs.instance.instance.Statement.{statement}
 use Rattle.formula.proofs.instance.instance.Tie as tie

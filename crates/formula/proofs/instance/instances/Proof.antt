@@ -5,8 +5,8 @@ use native.Mathlib.Omega.{arith}
 use Prim.Native.Nat.{_+_, _-_, _≤_}
 use lib.ListN.{take}
 use lib.Seq.{slice}
+use Rattle.words.proofs.memory.Storing.{Ahead, ahead-start, ahead-turn, ahead-end, ahead-length, ahead-slice}
 use Rattle.formula.specs.memory.Instances.{copies}
-use Rattle.formula.proofs.memory.Storing.{Ahead, ahead-start, ahead-turn, ahead-end, ahead-length, ahead-slice}
 use Rattle.formula.proofs.memory.Instances.{copies-next, copies-none, copies-near}
 use Rattle.formula.proofs.instance.instances.Statement.{statement}
 use Rattle.formula.proofs.instance.instances.Tie as tie

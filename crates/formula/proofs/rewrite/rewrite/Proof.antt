@@ -7,9 +7,9 @@ use mathlib.Core.Path.{refl, sym}
 use mathlib.Core.List.{List}
 use lib.ListN.{getD, take}
 use lib.Seq.{slice, length-take-le}
-use Rattle.formula.specs.memory.Storing.{Placed}
+use Rattle.words.specs.memory.Storing.{Placed}
+use Rattle.words.proofs.memory.Storing.{ahead-turn, ahead-length, theory-starts, theory-ends, place-near}
 use Rattle.formula.specs.memory.Rewriting.{fitWords}
-use Rattle.formula.proofs.memory.Storing.{ahead-turn, ahead-length, theory-starts, theory-ends, place-near}
 use Rattle.formula.proofs.memory.Rewriting.{end-after, decided-near, decided-kept, stored-as}
 use Rattle.formula.proofs.rewrite.rewrite.Statement.{statement}
 use Rattle.formula.proofs.rewrite.rewrite.Tie as tie

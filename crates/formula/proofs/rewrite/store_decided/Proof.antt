@@ -1,7 +1,7 @@
 -- `rewrite::store_decided` stores what was decided, by the decision.
 -- Assumes nothing.
 use borrow.Author.Needs.{needs}
-use Rattle.formula.proofs.memory.Storing.{slice-next}
+use Rattle.words.proofs.memory.Storing.{slice-next}
 use Rattle.formula.proofs.rewrite.store_decided.Statement.{statement}
 use Rattle.formula.proofs.rewrite.store_decided.Tie as tie
 

@@ -5,8 +5,8 @@ use native.Mathlib.Omega.{arith}
 use Prim.Native.Nat.{_≤_}
 use mathlib.Core.Path.{sym}
 use lib.Seq.{slice, length-slice, length-take-le}
+use Rattle.words.proofs.memory.Storing.{Ahead, ahead-start, ahead-turn, ahead-end, ahead-length, ahead-take, ahead-slice}
 use Rattle.formula.specs.memory.Simplified.{wordsWithout}
-use Rattle.formula.proofs.memory.Storing.{Ahead, ahead-start, ahead-turn, ahead-end, ahead-length, ahead-take, ahead-slice}
 use Rattle.formula.proofs.memory.Simplified.{wordsWithout-next, wordsWithout-none, length-wordsWithout}
 use Rattle.formula.proofs.simplify.copy_others.Statement.{statement}
 use Rattle.formula.proofs.simplify.copy_others.Tie as tie

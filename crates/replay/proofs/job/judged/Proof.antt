@@ -7,8 +7,8 @@ use mathlib.Core.Path.{_≡_, sym}
 use mathlib.Core.List.{List}
 use lib.ListN.{length, take}
 use lib.Seq.{length-take-le}
-use Rattle.replay.specs.memory.Steps.{Few}
-use Rattle.replay.specs.declared.grounding.Grounded.{Grounded}
+use Rattle.steps.specs.memory.Steps.{Few}
+use Rattle.grounding.specs.declared.grounding.Grounded.{Grounded}
 use Rattle.replay.proofs.Concluding.{judged-refused, judged-concluded}
 use Rattle.replay.proofs.job.judged.Statement.{statement}
 use Rattle.replay.proofs.job.judged.Tie as tie

@@ -6,7 +6,7 @@ use native.Mathlib.Omega.{arith}
 use Prim.Native.Nat.{_+_, _-_, _≤_}
 use mathlib.Core.Path.{_≡_, sym, _∙_}
 use lib.ListN.{length, drop}
-use Rattle.text.specs.Bytes.{begins}
+use Rattle.grammar.specs.Bytes.{begins}
 use Rattle.text.proofs.Places.{begins-same, begins-other, begins-short, begins-all}
 use Rattle.text.proofs.byte.begins_at.Statement.{statement}
 use Rattle.text.proofs.byte.begins_at.Tie as tie

@@ -6,7 +6,7 @@ use Prim.Native.Nat.{_+_, _-_, _≤_}
 use mathlib.Core.Path.{_≡_, refl, sym, ap, _∙_}
 use lib.ListN.{length, drop}
 use borrow.Author.Tests.{not-true, not-false}
-use Rattle.text.specs.Bytes.{span}
+use Rattle.grammar.specs.Bytes.{span}
 use Rattle.text.specs.memory.Classes.{inClass}
 use Rattle.text.proofs.Places.{span-more, span-stop, span-beyond}
 use Rattle.text.proofs.byte.run_end.Statement.{statement}

@@ -5,7 +5,7 @@ use native.Mathlib.Omega.{arith}
 use Prim.Native.Nat.{_+_, _-_, _≤_}
 use mathlib.Core.Path.{_≡_, refl}
 use lib.ListN.{length, drop}
-use Rattle.text.specs.Lines.{lineSize}
+use Rattle.grammar.specs.Lines.{lineSize}
 use Rattle.text.proofs.Places.{lineSize-more, lineSize-stop, lineSize-beyond}
 use Rattle.text.proofs.line.line_end.Statement.{statement}
 use Rattle.text.proofs.line.line_end.Tie as tie

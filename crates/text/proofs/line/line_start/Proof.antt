@@ -5,7 +5,7 @@ use native.Mathlib.Omega.{arith}
 use Prim.Native.Nat.{_+_, _-_, _≤_}
 use mathlib.Core.Path.{_≡_, sym}
 use lib.ListN.{length, drop, getD}
-use Rattle.text.specs.Lines.{isLF, lineStart, linesSize}
+use Rattle.grammar.specs.Lines.{isLF, lineStart, linesSize}
 use Rattle.text.proofs.Places.{linesSize-more, linesSize-none, linesSize-beyond, lineStart-later, feeds-atmost}
 use Rattle.text.proofs.line.line_start.Statement.{statement}
 use Rattle.text.proofs.line.line_start.Tie as tie

@@ -5,7 +5,7 @@ use native.Mathlib.Omega.{arith}
 use Prim.Native.Nat.{_-_}
 use mathlib.Core.Path.{_≡_}
 use lib.ListN.{drop}
-use Rattle.text.specs.Lines.{lineSize}
+use Rattle.grammar.specs.Lines.{lineSize}
 use Rattle.text.proofs.line.refused_line.Statement.{statement}
 use Rattle.text.proofs.line.refused_line.Tie as tie
 

@@ -5,7 +5,7 @@ use native.Mathlib.Omega.{arith}
 use Prim.Native.Nat.{_-_, _≤_}
 use mathlib.Core.Path.{_≡_, refl, sym, _∙_}
 use lib.ListN.{length, drop}
-use Rattle.text.specs.Bytes.{same}
+use Rattle.grammar.specs.Bytes.{same}
 use Rattle.text.proofs.Parts.{same-length, same-on, same-off, same-end}
 use Rattle.text.proofs.name.equal.Statement.{statement}
 use Rattle.text.proofs.name.equal.Tie as tie

@@ -5,7 +5,7 @@ use mathlib.Core.Path.{sym, _∙_}
 use Prim.Native.Nat.{_-_}
 use lib.ListN.{length}
 use borrow.Author.Tests.{not-true, not-false}
-use Rattle.text.specs.Bytes.{isDigit}
+use Rattle.grammar.specs.Bytes.{isDigit}
 use Rattle.text.proofs.Places.{span-stop, span-beyond}
 use Rattle.text.proofs.NumberPlaces.{DigitsPassed, digits-first, digits-on, digits-stop}
 use Rattle.text.proofs.number.digits_at.Statement.{statement}

@@ -2,7 +2,7 @@
 -- Assumes nothing.
 use borrow.Author.Needs.{needs}
 use native.Mathlib.Omega.{arith}
-use Rattle.text.proofs.Numbers.{digit-bounds}
+use Rattle.grammar.proofs.Numbers.{digit-bounds}
 use Rattle.text.proofs.number.with_digit.Statement.{statement}
 use Rattle.text.proofs.number.with_digit.Tie as tie
 

@@ -1,0 +1,2 @@
+// Whether formulas in memory are ground clauses.
+pub mod clause;

@@ -1,0 +1,11 @@
+pub mod Steps
+pub mod Theory
+pub mod Soundness
+pub mod Derivation
+pub mod Cases
+pub mod TheoryText
+pub mod Refusals
+pub mod Ground
+pub mod Accepted
+pub mod Demands
+pub mod Promises

@@ -1,0 +1,10 @@
+pub mod TheoryText
+pub mod Theory
+pub mod Steps
+pub mod Replay
+pub mod Ground
+pub mod Answer
+pub mod Accepted
+pub mod Promise
+pub mod Refused
+pub mod memory

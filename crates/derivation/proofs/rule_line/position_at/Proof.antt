@@ -1,0 +1,56 @@
+-- `rule_line::position_at` reads a name and then a path.
+-- Assumes nothing.
+use borrow.Author.Needs.{needs}
+use mathlib.Core.Path.{subst}
+use Rattle.grammar.specs.Derivation.{readPath}
+use Rattle.derivation.specs.memory.RuleLines.{RangedFound, ToldRanged, ToldNumbers}
+use Rattle.derivation.proofs.LinePlaces.{position-unnamed, position-refused, position-found}
+use Rattle.derivation.proofs.rule_line.position_at.Statement.{statement}
+use Rattle.derivation.proofs.rule_line.position_at.Tie as tie
+
+named : (c : tie.After-name)
+    → let a = c .before .before .before .before .args in
+    RangedFound 1 65535 (a .text .now) (a .at) (c .name .given .0 .0) (c .name .given .0 .1 .0)
+named c =
+    let a = c .before .before .before .before .args in
+    subst (ToldRanged 1 65535 (a .text .now) (a .at)) (c .name .given .1) (c .before .before .ranged-at .ensures)
+
+returns : tie.Need-returns
+returns c =
+    let a = c .before .before .before .before .args in
+    position-unnamed
+    (subst (ToldRanged 1 65535 (a .text .now) (a .at)) (c .enum-told .given .1) (c .before .before .ranged-at .ensures))
+
+path-at-requires : tie.Need-path-at-requires
+path-at-requires c κs = named (c .before) .found .within
+
+returns-2 : tie.Need-returns-2
+returns-2 c =
+    let before = c .before .before .before .before in
+    let name = c .before .before .before .before .name in
+    let a = c .before .before .before .before .before .before .before .before .args in
+    position-refused (named (before))
+    (subst (ToldNumbers readPath (a .text .now) (name .given .0 .1 .0)) (c .enum-told2 .given .1) (c .before .before .path-at .ensures))
+
+returns-3 : tie.Need-returns-3
+returns-3 c =
+    let path-at = c .before .before .before .path-at in
+    let before = c .before .before .before .before .before in
+    let name = c .before .before .before .before .before .name in
+    let a = c .before .before .before .before .before .before .before .before .before .args in
+    position-found (named (before))
+    (subst (ToldNumbers readPath (a .text .now) (name .given .0 .1 .0)) (c .before .path .given .1) (path-at .ensures))
+
+pub position-at-spec : {M : Type 1} → statement M
+position-at-spec =
+    tie.close
+    (tie.spec
+    (λ c κs. search needs)
+    (λ c. search needs)
+    (λ c. search needs)
+    returns
+    path-at-requires
+    (λ c. search needs)
+    (λ c. search needs)
+    returns-2
+    returns-3)

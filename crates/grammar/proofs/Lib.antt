@@ -1,0 +1,11 @@
+pub mod Laws
+pub mod Outcome
+pub mod Numbers
+pub mod Reading
+pub mod Lines
+pub mod Problem
+pub mod ProblemText
+pub mod ProblemRead
+pub mod Derivation
+pub mod Refusals
+pub mod Separated

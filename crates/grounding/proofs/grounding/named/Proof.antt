@@ -1,0 +1,45 @@
+-- `grounding::named` writes the part of the names.
+-- Assumes nothing.
+use borrow.Author.Needs.{needs}
+use native.Mathlib.Omega.{arith}
+use mathlib.Core.Path.{ap}
+use lib.ListN.{length, length-drop}
+use Rattle.steps.proofs.Regions.{part-end}
+use Rattle.grounding.proofs.GroundReads.{first-named}
+use Rattle.grounding.proofs.grounding.named.Statement.{statement}
+use Rattle.grounding.proofs.grounding.named.Tie as tie
+
+part-put-first-start : tie.Need-part-put-first-start
+part-put-first-start c = omega (arith, c .before .pre .0)
+
+put-first-requires : tie.Need-put-first-requires
+put-first-requires c κs =
+    let start = c .before .before in
+    let a = start .args in
+    let e = ap length (part-end (a .work .now) (a .layout .names)) in
+    let l = length-drop (a .layout .names) (a .work .now) in
+    (omega (arith, e, l, start .pre .0, start .pre .1), omega (arith, start .pre .1))
+
+cast-t12 : tie.Need-cast-t12
+cast-t12 c =
+    let start = c .before .before .before .before .before in
+    omega (arith, start .pre .1)
+
+returns : tie.Need-returns
+returns c =
+    let a = c .before .before .before .before .before .args in
+    let pre = c .before .before .before .before .before .pre in
+    rw (c .before .before .put-first .ensures) (first-named (a .layout) (a .count) (a .full) (a .work .now) (pre .0) (pre .1) (pre .2))
+
+pub named-spec : {M : Type 1} → statement M
+named-spec =
+    tie.close
+    (tie.spec
+    (λ c. search needs)
+    (λ c. search needs)
+    part-put-first-start
+    (λ c. search needs)
+    put-first-requires
+    cast-t12
+    (λ c. search needs)
+    returns)

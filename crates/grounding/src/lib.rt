@@ -1,0 +1,4 @@
+// A derivation replayed to its end: from the texts to the ground theory.
+pub mod ending;
+pub mod grounding;
+pub mod replaying;

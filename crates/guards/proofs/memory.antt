@@ -1,0 +1,5 @@
+pub mod Flags
+pub mod Values
+pub mod Indexed
+pub mod Evaluated
+pub mod Admitted

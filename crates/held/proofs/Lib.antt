@@ -1,0 +1,10 @@
+pub mod HeldWords
+pub mod HeldTargets
+pub mod HeldRules
+pub mod HeldWhole
+pub mod Held
+pub mod HeldEnd
+pub mod Simulation
+pub mod HeldReplay
+pub mod Begins
+pub mod GroundTable

@@ -1,0 +1,1 @@
+// What memory holds moves as the theory does. Laws alone, no code.

@@ -1,0 +1,2 @@
+// The names of the live formulas, in theory order.
+pub mod names;

@@ -1,0 +1,31 @@
+-- `print::emit_truth` prints the word of a truth value.
+-- Assumes nothing.
+use borrow.Author.Needs.{needs}
+use mathlib.Core.Path.{ap}
+use Rattle.logic.specs.Text.{truthText}
+use Rattle.printing.proofs.memory.Cursor.{print-as}
+use Rattle.printing.proofs.print.emit_truth.Statement.{statement}
+use Rattle.printing.proofs.print.emit_truth.Tie as tie
+
+returns : tie.Need-returns
+returns c =
+    let if1 = c .before .before .before .before .before .if1 in
+    print-as (ap truthText (if1 .taken)) (c .before .before .emit-all .ensures)
+
+returns-2 : tie.Need-returns-2
+returns-2 c =
+    let if1 = c .before .before .before .before .before .if1 in
+    print-as (ap truthText (if1 .left)) (c .before .before .emit-all2 .ensures)
+
+pub emit-truth-spec : {M : Type 1} → statement M
+emit-truth-spec =
+    tie.close
+    (tie.spec
+    (λ c. search needs)
+    (λ c κs. search needs)
+    (λ c. search needs)
+    returns
+    (λ c. search needs)
+    (λ c κs. search needs)
+    (λ c. search needs)
+    returns-2)

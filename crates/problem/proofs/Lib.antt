@@ -1,0 +1,9 @@
+pub mod DeclarationPlaces
+pub mod Listing
+pub mod RelationPlaces
+pub mod RowPlaces
+pub mod RowsKept
+pub mod ProblemPlaces
+pub mod TableGrowth
+pub mod RowsLine
+pub mod ProblemLoop

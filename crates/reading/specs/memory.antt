@@ -1,0 +1,4 @@
+pub mod FormulaReads
+pub mod Openings
+pub mod PartReads
+pub mod TheoryLines

@@ -1,0 +1,4 @@
+pub mod Regions
+pub mod Targets
+pub mod Decisions
+pub mod Moves

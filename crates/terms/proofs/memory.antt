@@ -1,0 +1,9 @@
+pub mod Listing
+pub mod NameTable
+pub mod Variables
+pub mod Facts
+pub mod Bindings
+pub mod Signature
+pub mod Lists
+pub mod Entries
+pub mod TermReads

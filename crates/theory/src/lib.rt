@@ -1,0 +1,2 @@
+// The theory, read line by line.
+pub mod theory_reader;

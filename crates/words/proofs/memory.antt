@@ -1,0 +1,9 @@
+pub mod Kinds
+pub mod Naming
+pub mod Words
+pub mod Stored
+pub mod Paths
+pub mod Inner
+pub mod Storing
+pub mod Kept
+pub mod Standing

@@ -1,0 +1,31 @@
+-- `store::without_word` stores what stands before the word, and what stands after it.
+-- Assumes nothing.
+use borrow.Author.Needs.{needs}
+use native.Mathlib.Omega.{arith}
+use mathlib.Core.List.{[]}
+use Rattle.words.proofs.memory.Storing.{ahead-length, theory-starts, theory-ends, place-near}
+use Rattle.words.proofs.store.without_word.Statement.{statement}
+use Rattle.words.proofs.store.without_word.Tie as tie
+
+copy-requires-2 : tie.Need-copy-requires-2
+copy-requires-2 c κs =
+    let copy = c .before .before .before .copy in
+    let start = c .before .before .before .before .before .before in
+    let h = theory-starts (start .pre) [] (copy .ensures) in
+    omega (arith, place-near (start .pre) (copy .ensures), ahead-length h, start .pre)
+
+sub-result : tie.Need-sub-result
+sub-result c =
+    let copy = c .before .before .before .before .before .before .copy in
+    let start = c .before .before .before .before .before .before .before .before .before in
+    omega (arith, c .before .before .copy2 .ensures .ends, place-near (start .pre) (copy .ensures))
+
+returns : tie.Need-returns
+returns c =
+    let copy = c .before .before .before .before .before .before .copy in
+    let start = c .before .before .before .before .before .before .before .before .before in
+    theory-ends (start .pre) (theory-starts (start .pre) [] (copy .ensures)) (c .before .before .copy2 .ensures)
+
+pub without-word-spec : {M : Type 1} → statement M
+without-word-spec =
+    tie.close (tie.spec (λ c κs. search needs) (λ c. search needs) copy-requires-2 sub-result (λ c. search needs) returns)

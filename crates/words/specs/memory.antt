@@ -1,0 +1,5 @@
+pub mod Kinds
+pub mod Words
+pub mod Stored
+pub mod Paths
+pub mod Storing
