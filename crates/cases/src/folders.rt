@@ -1,7 +1,7 @@
 // Folders as the desk gets them: each that folders/list names is checked by its four files, and what the desk prints follows its name.
-use crate::say;
-use crate::texts;
-use crate::written;
+use casefile::say;
+use casefile::texts;
+use casefile::written;
 use text::line::line_end;
 use text::name::part;
 

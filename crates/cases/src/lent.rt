@@ -1,5 +1,5 @@
 // The memory that is lent to a job: what stands in it before, and what is left in it.
-use crate::say;
+use casefile::say;
 
 // What an output has at a place before a job: bytes from 128 on, which no ground text has.
 fn byte_before(i: usize) -> u8 {

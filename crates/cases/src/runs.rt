@@ -1,11 +1,11 @@
 // Whole runs. A file of runs/ sets the four texts and the sizes of what is lent, each behind a line `# problem`, `# output 100` and so
 // on, and has check or replay run on what is set by a line `# check NAME`. What is not set again stays as it was.
 use crate::lent;
-use crate::say;
-use crate::texts;
-use crate::texts::Section;
-use crate::texts::between;
-use crate::written;
+use casefile::say;
+use casefile::texts;
+use casefile::texts::Section;
+use casefile::texts::between;
+use casefile::written;
 use demands::answer::Answer;
 use text::byte::begins_at;
 use text::line::line_end;
