@@ -3,6 +3,7 @@ pub mod Outcome
 pub mod Numbers
 pub mod Reading
 pub mod Lines
+pub mod HandedBack
 pub mod Problem
 pub mod ProblemText
 pub mod ProblemRead

@@ -196,15 +196,16 @@ module _ (t : Bytes) where
     pub refusedLine-later : (k : ℕ) → refusedLine (w ++ (10 ∷ t)) (suc (suc k)) ≡ refusedLine t (suc k)
     refusedLine-later k = rw (lineStart-later k, drop-append-add w (10 ∷ t) (suc (lineStart t (suc k))))
 
-linesSize-before : (s : Bytes) (lines : ℕ) → lines < lineCount s → linesSize s lines < length s
-linesSize-before [] lines h = absurd (omega arith)
-linesSize-before (b ∷ s) zero h = omega arith
-linesSize-before (b ∷ s) (suc lines) h = pick (isLF b) h (λ k. linesSize-before s k)
+linesSize-rises : (s : Bytes) (k m : ℕ) → k < m → k < lineCount s → linesSize s k < linesSize s m
+linesSize-rises [] k m h l = absurd (omega arith)
+linesSize-rises (b ∷ s) k zero h l = absurd (omega arith)
+linesSize-rises (b ∷ s) zero (suc m) h l = omega arith
+linesSize-rises (b ∷ s) (suc k) (suc m) h l = pick (isLF b) l (λ i j. linesSize-rises s i j)
   where
-    pick : (c : Bool) → suc lines < cond c (suc (lineCount s)) (max 1 (lineCount s)) → ((k : ℕ) → k < lineCount s → linesSize s k < length s)
-        → suc (linesSize s (cond c lines (suc lines))) < suc (length s)
-    pick true g ih = omega (arith, ih lines (omega arith))
-    pick false g ih = omega (arith, ih (suc lines) (omega arith))
+    pick : (c : Bool) → suc k < cond c (suc (lineCount s)) (max 1 (lineCount s)) → ((i j : ℕ) → i < j → i < lineCount s → linesSize s i < linesSize s j)
+        → suc (linesSize s (cond c k (suc k))) < suc (linesSize s (cond c m (suc m)))
+    pick true g ih = omega (arith, ih k m (omega arith) (omega arith))
+    pick false g ih = omega (arith, ih (suc k) (suc m) (omega arith) (omega arith))
 
 line-begun : (b : ℕ) (s : Bytes) → 0 < lineCount (b ∷ s)
 line-begun b s = pick (isLF b)
@@ -223,9 +224,13 @@ linesSize-all (b ∷ s) (suc lines) h = pick (isLF b) h (λ k. linesSize-all s k
     pick true g ih = ap suc (ih lines (omega arith))
     pick false g ih = ap suc (ih (suc lines) (omega arith))
 
--- a line that there is begins before the end
-pub lineStart-present : (s : Bytes) (k : ℕ) → k < lineCount s → lineStart s (suc k) < length s
-lineStart-present s k h = linesSize-before s k h
+-- a line that there is begins before every later one, and before the end
+module _ (s : Bytes) where
+  pub lineStart-rises : (k m : ℕ) → k < m → k < lineCount s → lineStart s (suc k) < lineStart s (suc m)
+  lineStart-rises = linesSize-rises s
+
+  pub lineStart-present : (k : ℕ) → k < lineCount s → lineStart s (suc k) < length s
+  lineStart-present k h = omega (arith, linesSize-rises s k (lineCount s) h h, linesSize-all s (lineCount s) (omega arith))
 
 -- line 0 and a line after the last are the empty part at the end
 module _ (s : Bytes) where
