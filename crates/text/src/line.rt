@@ -3,7 +3,8 @@ ghost use mathlib.Core.Path.{_≡_};
 ghost use Prim.Native.Nat.{_+_, _≤_};
 ghost use lib.ListN.{length, drop};
 ghost use mathlib.Core.Bool.{cond};
-ghost use Rattle.grammar.specs.Lines.{isLF, lineSize, lineStart, refusedLine};
+ghost use Rattle.grammar.specs.Lines.{isLF, lineSize, lineStart};
+ghost use Rattle.grammar.specs.HandedBack.{HandedBack};
 
 // The place of the next LF, or the end.
 pub fn line_end(text: &[u8], at: usize) -> usize
@@ -48,7 +49,7 @@ fn line_start(text: &[u8], line: usize) -> usize
 
 // The refused line: that part of the text, without its LF; the empty part at the end, where there is no such line.
 pub fn refused_line(text: &[u8], line: usize) -> &[u8]
-    ensures { λ r. ⌜ now r ≡ refusedLine (now (text .entry)) line ⌝ }
+    ensures { λ r. ⌜ HandedBack (text .entry) line r ⌝ }
 {
     let from = line_start(text, line);
     let to = line_end(text, from);
