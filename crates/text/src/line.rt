@@ -3,7 +3,7 @@ ghost use mathlib.Core.Path.{_≡_};
 ghost use Prim.Native.Nat.{_+_, _≤_};
 ghost use lib.ListN.{length, drop};
 ghost use mathlib.Core.Bool.{cond};
-ghost use Rattle.grammar.specs.Lines.{isLF, lineSize, lineStart};
+ghost use Rattle.grammar.specs.Lines.{isLF, lineSize, linesSize};
 ghost use Rattle.grammar.specs.HandedBack.{HandedBack};
 
 // The place of the next LF, or the end.
@@ -28,14 +28,11 @@ fn feeds(b: u8) -> usize
     if b == b'\n' { 1 } else { 0 }
 }
 
-// Where a line begins, counted from 1; the end, where there is no such line.
-fn line_start(text: &[u8], line: usize) -> usize
-    ensures { λ r. ⌜ (r ≡ lineStart (now (text .entry)) line) × (r ≤ length (now (text .entry))) ⌝ }
+// Where the first lines end, with their LFs; the end, where there are no more.
+fn lines_end(text: &[u8], lines: usize) -> usize
+    ensures { λ r. ⌜ (r ≡ linesSize (now (text .entry)) lines) × (r ≤ length (now (text .entry))) ⌝ }
 {
-    if line == 0 {
-        return text.len();
-    }
-    let mut left = line - 1;
+    let mut left = lines;
     let mut i: usize = 0;
     while i < text.len() {
         if left == 0 {
@@ -47,11 +44,15 @@ fn line_start(text: &[u8], line: usize) -> usize
     i
 }
 
-// The refused line: that part of the text, without its LF; the empty part at the end, where there is no such line.
+// The refused line, counted from 1: that part of the text, without its LF; the empty part at the end, where there is no such line.
 pub fn refused_line(text: &[u8], line: usize) -> &[u8]
     ensures { λ r. ⌜ HandedBack (text .entry) line r ⌝ }
 {
-    let from = line_start(text, line);
+    if line == 0 {
+        let end = text.len();
+        return &text[end..end];
+    }
+    let from = lines_end(text, line - 1);
     let to = line_end(text, from);
     &text[from..to]
 }
