@@ -36,8 +36,11 @@ pub enum AtPosition {
     Trivial,
 }
 
-// A line: its formula's name, and for each list of numbers the place of the first and how many there are.
+// A line: of the heading the place after it; its formula's name, and for each list of numbers the place of the first and how many there are.
 pub enum LineRead {
+    Heading {
+        next: usize,
+    },
     Position {
         kind: AtPosition,
         name: u32,

@@ -1,9 +1,9 @@
 // The replay of a derivation, line by line: 10 to 15.
+use crate::heading::Headed;
+use crate::heading::heading_line;
 use derivation::reader::read_line;
 use derivation::rule_line::AtPosition;
 use derivation::rule_line::LineRead;
-use derivation::rule_line::grounder_end;
-use derivation::rule_line::version_end;
 use steps::live::Layout;
 use steps::live::Live;
 use steps::live::Step;
@@ -12,7 +12,6 @@ use steps::whole::refuted;
 use steps::whole::removed;
 use steps::whole::split;
 use table::table::Table;
-use text::byte::Ended;
 ghost use mathlib.Core.Path.{_≡_};
 ghost use Prim.Native.Nat.{_≤_, _<_};
 ghost use lib.ListN.{length};
@@ -96,7 +95,7 @@ fn replay_line(
     live: Live,
     table: Table,
 ) -> Moved
-    requires { ⌜ Arranged layout (length (now work)) × Few live × (table .domain ≤ 64) × (at < length (now text)) × (length (now text) ≤ 65536) ⌝ }
+    requires { ⌜ Arranged layout (length (now work)) × Few live × (table .domain ≤ 64) × (at < length (now text)) × (length (now text) ≤ 65536) × (3 ≤ line) ⌝ }
     ensures { λ r. ⌜ ((first : Held) → ToldMoved table (rowsIn layout (now (work .entry))) first layout (now (work .entry)) (heldIn layout live (now (work .entry))) (now (text .entry)) at line r (now (work .exit))) ⌝ }
 {
     let numbered = read_line(text, at, line);
@@ -126,6 +125,10 @@ fn replay_line(
             numbered.line,
         ),
         LineRead::Footer { names, many, next } => Moved::Footer { names, many, next },
+        LineRead::Heading { next: _ } => Moved::Refused {
+            number: 10,
+            line: numbered.line,
+        },
         LineRead::Malformed => Moved::Refused {
             number: 10,
             line: numbered.line,
@@ -133,33 +136,36 @@ fn replay_line(
     }
 }
 
-// Rule lines and the footer, from a place on; nothing may stand behind the footer.
+// Rule lines and the footer, from a place and a line on; nothing may stand behind the footer.
 fn replay_lines(
     text: &[u8],
     at: usize,
+    from: u32,
     work: &mut [u32],
     layout: Layout,
     first: Live,
     table: Table,
 ) -> Replayed
-    requires { ⌜ Arranged layout (length (now work)) × Few first × (table .domain ≤ 64) × (at ≤ length (now text)) × (length (now text) ≤ 65536) ⌝ }
-    ensures { λ r. ⌜ ((start : Held) (whole : JudgedIn) → GoingIn table (rowsIn layout (now (work .entry))) start whole (now (text .entry)) at 3 (among (heldIn layout first (now (work .entry))) 0) → ToldReplayed whole layout (rowsIn layout (now (work .entry))) (now (text .entry)) r (now (work .exit))) ⌝ }
+    requires { ⌜ Arranged layout (length (now work)) × Few first × (table .domain ≤ 64) × (at ≤ length (now text)) × (length (now text) ≤ 65536) × (from ≡ 3) ⌝ }
+    ensures { λ r. ⌜ ((start : Held) (whole : JudgedIn) → GoingIn table (rowsIn layout (now (work .entry))) start whole (now (text .entry)) at from (among (heldIn layout first (now (work .entry))) 0) → ToldReplayed whole layout (rowsIn layout (now (work .entry))) (now (text .entry)) r (now (work .exit))) ⌝ }
 {
     let mut place = at;
+    let mut line = from;
     let mut live = first;
     let mut rules: u32 = 0;
     while place < text.len() {
-        match replay_line(text, place, rules + 3, work, layout, live, table) {
+        match replay_line(text, place, line, work, layout, live, table) {
             Moved::On { live: after, next } => {
                 live = after;
                 place = next;
+                line += 1;
                 rules += 1;
             }
             Moved::Footer { names, many, next } => {
                 if next < text.len() {
                     return Replayed::Refused {
                         number: 10,
-                        line: rules + 4,
+                        line: line + 1,
                     };
                 }
                 return Replayed::Done {
@@ -169,15 +175,18 @@ fn replay_lines(
                     many,
                 };
             }
-            Moved::Refused { number, line } => {
-                return Replayed::Refused { number, line };
+            Moved::Refused {
+                number,
+                line: refused,
+            } => {
+                return Replayed::Refused {
+                    number,
+                    line: refused,
+                };
             }
         }
     }
-    Replayed::Refused {
-        number: 10,
-        line: rules + 3,
-    }
+    Replayed::Refused { number: 10, line }
 }
 
 // A whole derivation.
@@ -191,17 +200,16 @@ pub fn replay_text(
     requires { ⌜ Arranged layout (length (now work)) × Few live × (table .domain ≤ 64) × (length (now text) ≤ 65536) ⌝ }
     ensures { λ r. ⌜ ToldReplayed (derivationFrom (steppedIn table (rowsIn layout (now (work .entry)))) (heldIn layout live (now (work .entry))) (now (text .entry))) layout (rowsIn layout (now (work .entry))) (now (text .entry)) r (now (work .exit)) ⌝ }
 {
-    match version_end(text, 0) {
-        Ended::At(heading) => match grounder_end(text, heading) {
-            Ended::At(at) => replay_lines(text, at, work, layout, live, table),
-            Ended::Malformed => Replayed::Refused {
-                number: 10,
-                line: 2,
-            },
+    match heading_line(text, 0, 1) {
+        Headed::Behind {
+            next: heading,
+            line,
+        } => match heading_line(text, heading, line) {
+            Headed::Behind { next, line } => {
+                replay_lines(text, next, line, work, layout, live, table)
+            }
+            Headed::Malformed { line } => Replayed::Refused { number: 10, line },
         },
-        Ended::Malformed => Replayed::Refused {
-            number: 10,
-            line: 1,
-        },
+        Headed::Malformed { line } => Replayed::Refused { number: 10, line },
     }
 }

@@ -73,6 +73,7 @@ fn one(text: &[u8], at: usize) -> usize
             say::word(b"10");
             texts::after_line(text, at)
         }
+        LineRead::Heading { next: _ } => texts::after_line(text, at),
     }
 }
 

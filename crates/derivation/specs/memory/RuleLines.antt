@@ -8,7 +8,7 @@ use Rattle.grammar.specs.Bytes.{Bytes, bytes, begins}
 use Rattle.grammar.specs.Outcome.{Outcome, refused}
 use Rattle.grammar.specs.Reading.{Reading, give, _⇒_, oneOf, separated}
 use Rattle.grammar.specs.Derivation.{Position, Rule, SNAND, SNOR, STN, EPRED, EPROP, IQ, RuleLine, rewrite, unsat, trivial, splitc, Line, step, footer}
-use Rattle.grammar.specs.Derivation.{readRanged, readFormulaName, readPosition, atPosition, readSplit, readFooter, readLine}
+use Rattle.grammar.specs.Derivation.{readRanged, readFormulaName, readPosition, atPosition, readSplit, readFooter, readLine, readVersion, readGrounder}
 use Rattle.text.specs.memory.Found.{Found, Taken, Refused, WordFound}
 use Rattle.text.specs.memory.Numbers.{numberAt, numberEnd, numbersAt}
 use Rattle.text.specs.declared.byte.Ended.{Ended}
@@ -94,6 +94,7 @@ ToldPosition text at (position.Position name path steps next) = PositionFound te
 ToldPosition text at position.Malformed = Refused 10 readPosition text at
 
 abbrev pub ToldLine : Reading Line → Bytes → ℕ → LineRead → Type 0
+ToldLine reader text at (line.Heading next) = ⊥
 ToldLine reader text at (line.Position kind name path steps next) =
     Taken reader text at (step (makeOf kind (positionAt text name path steps))) next × (path + steps ≤ next)
 ToldLine reader text at (line.Split name path steps names many next) =
@@ -102,9 +103,23 @@ ToldLine reader text at (line.Split name path steps names many next) =
 ToldLine reader text at (line.Footer names many next) = Taken reader text at (footer (numbersAt text names many)) next × (names + many ≤ next)
 ToldLine reader text at line.Malformed = Refused 10 reader text at
 
+-- a line of the heading is read
+abbrev pub headingOf : Ended → LineRead
+headingOf (ended.At next) = line.Heading next
+headingOf ended.Malformed = line.Malformed
+
+abbrev pub ToldHeading : {A : Type 0} → Reading A → Bytes → ℕ → LineRead → Type 0
+ToldHeading reader text at r = (e : Ended) × (ToldEnd reader text at e × (r ≡ headingOf e))
+
+-- the version is line 1, the grounder line 2; rule lines and the footer follow
+pub record Awaited (text : Bytes) (at number : ℕ) (r : LineRead) : Type 0 where
+  pub version : number ≡ 1 → ToldHeading readVersion text at r
+  pub grounder : number ≡ 2 → ToldHeading readGrounder text at r
+  pub rule : 3 ≤ number → ToldLine readLine text at r
+
 -- a line is read under its number
 pub record ToldNumbered (text : Bytes) (at number : ℕ) (r : Numbered) : Type 0 where
-  pub told : ToldLine readLine text at (r .read)
+  pub told : Awaited text at number (r .read)
   pub numbered : r .line ≡ number
 
 -- the outcome is what another reader makes of the text from a later place on

@@ -8,15 +8,19 @@ use Rattle.grammar.specs.Outcome.{done, refused}
 use Rattle.grammar.specs.Reading.{Reading}
 use Rattle.grammar.specs.Lines.{Judged, refusal}
 use Rattle.demands.specs.Replay.{Place, among, bottom, Replayed, wholeDerivation, derivationLine}
+use Rattle.text.specs.memory.Found.{Refused}
 use Rattle.text.specs.memory.Numbers.{numbersAt}
 use Rattle.text.specs.memory.Going.{Going}
 use Rattle.table.specs.declared.table.Table.{Table}
+use Rattle.derivation.specs.memory.RuleLines.{EndFound}
 use Rattle.steps.specs.memory.Held.{Held, steppedIn}
 use Rattle.steps.specs.memory.Steps.{rowsIn, heldIn, Few}
 use Rattle.steps.specs.declared.live.Live.{Live}
 use Rattle.steps.specs.declared.live.Layout.{Layout}
 use Rattle.steps.specs.declared.live.Step.{Step}
 use Rattle.steps.specs.declared.live.Step.the-variants as step
+use Rattle.grounding.specs.declared.heading.Headed.{Headed}
+use Rattle.grounding.specs.declared.heading.Headed.the-variants as headed
 use Rattle.grounding.specs.declared.replaying.Moved.{Moved}
 use Rattle.grounding.specs.declared.replaying.Moved.the-variants as moved
 use Rattle.grounding.specs.declared.replaying.Replayed.{Replayed as ReplayedRead}
@@ -45,6 +49,11 @@ module _ (table : Table) (rows : List ℕ) (first : Held) where
   ToldMoved layout old m text at line (moved.On live next) work = Leads m text at next (λ rules. among (heldIn layout live work) (suc rules)) × (Few live × (rowsIn layout work ≡ rows))
   ToldMoved layout old m text at line (moved.Footer names many next) work = Leads m text at next (λ rules. bottom m rules (numbersAt text names many)) × ((names + many ≤ next) × (work ≡ old))
   ToldMoved layout old m text at line (moved.Refused number told) work = ((rules : ℕ) → lineIn (among m rules) (drop at text) ≡ refused number) × (told ≡ line)
+
+-- a line of the heading is read, and the next has the next number; or it is malformed under its own
+abbrev pub ToldHeaded : {A : Type 0} → Reading A → Bytes → ℕ → ℕ → Headed → Type 0
+ToldHeaded reader text at line (headed.Behind next told) = EndFound reader text at next × (told ≡ line + 1)
+ToldHeaded reader text at line (headed.Malformed told) = Refused 10 reader text at × (told ≡ line)
 
 -- what a derivation comes to is in memory
 pub record Finished (outcome : JudgedIn) (layout : Layout) (rows : List ℕ) (text : Bytes) (live : Live) (rules names many : ℕ) (work : List ℕ) : Type 0 where

@@ -16,13 +16,13 @@ use Rattle.grounding.proofs.replaying.replay_lines.Statement.{statement
 use Rattle.grounding.proofs.replaying.replay_lines.Tie as tie
 
 abbrev Inv-loop : tie.InvT-loop
-Inv-loop text at work₀ layout table place₀ live₀ rules₀ work place live rules =
-    (place ≤ length text) × Few live × (rowsIn layout work ≡ rowsIn layout work₀) × (length work ≡ length work₀) × (rules ≤ place)
-    × ((start : Held) (whole : JudgedIn) → GoingIn table (rowsIn layout work₀) start whole text at 3 (among (heldIn layout live₀ work₀) 0)
-    → GoingIn table (rowsIn layout work₀) start whole text place (rules + 3) (among (heldIn layout live work) rules))
+Inv-loop text at from work₀ layout table place₀ line₀ live₀ rules₀ work place line live rules =
+    (place ≤ length text) × Few live × (rowsIn layout work ≡ rowsIn layout work₀) × (length work ≡ length work₀) × ((rules ≤ place) × (line ≡ rules + 3))
+    × ((start : Held) (whole : JudgedIn) → GoingIn table (rowsIn layout work₀) start whole text at from (among (heldIn layout live₀ work₀) 0)
+    → GoingIn table (rowsIn layout work₀) start whole text place line (among (heldIn layout live work) rules))
 
 abbrev μ-loop : tie.MeasureT-loop
-μ-loop text at work₀ layout table place₀ live₀ rules₀ work place live rules = length text - place
+μ-loop text at from work₀ layout table place₀ line₀ live₀ rules₀ work place line live rules = length text - place
 
 -- the turn in which a line is replayed
 module _ (line : tie.After-replay-line Inv-loop μ-loop) where
@@ -42,7 +42,7 @@ module _ (line : tie.After-replay-line Inv-loop μ-loop) where
   line-told : (other : Moved) → line .replay-line .result ≡ other → (start : Held)
       → let l = turn .before .loop in
       let a = begun .args in
-      ToldMoved (a .table) rows start (a .layout) (l .work) (heldIn (a .layout) (l .live) (l .work)) (a .text .now) (l .place) (l .rules + 3) other left
+      ToldMoved (a .table) rows start (a .layout) (l .work) (heldIn (a .layout) (l .live) (l .work)) (a .text .now) (l .place) (l .line) other left
   line-told other e start = rw (e, turn .before .loop .inv .2) at (line .replay-line .ensures start)
 
   -- memory is as long as it was
@@ -52,23 +52,23 @@ module _ (line : tie.After-replay-line Inv-loop μ-loop) where
       same ∙ turn .before .loop .inv .3
 
 loop-holds : tie.Need-loop-holds Inv-loop μ-loop
-loop-holds c = (c .before .before .pre .3, c .before .before .pre .1, refl, refl, omega arith, λ start whole g. g)
-
-add-replay-line : tie.Need-add-replay-line Inv-loop μ-loop
-add-replay-line c =
-    let l = c .before .loop in
-    omega (arith, l .inv .4, l .inv .0, c .before .before .before .before .pre .4)
+loop-holds c = (c .before .before .pre .3, c .before .before .pre .1, refl, refl, (omega arith, omega (arith, c .before .before .pre .5)), λ start whole g. g)
 
 replay-line-requires : tie.Need-replay-line-requires Inv-loop μ-loop
 replay-line-requires c κs =
     let l = c .before .before .loop in
     let pre = c .before .before .before .before .before .pre in
-    (rw (l .inv .3) (pre .0), l .inv .1, pre .2, c .before .loop-test .taken, pre .4)
+    (rw (l .inv .3) (pre .0), l .inv .1, pre .2, c .before .loop-test .taken, pre .4, omega (arith, l .inv .4 .1))
+
+add-line : tie.Need-add-line Inv-loop μ-loop
+add-line c =
+    let line = c .before .before .before .before .before in
+    omega (arith, turn line .before .loop .inv .4 .0, turn line .before .loop .inv .4 .1, turn line .before .loop .inv .0, begun line .pre .4)
 
 add-rules : tie.Need-add-rules Inv-loop μ-loop
 add-rules c =
     let line = c .before .before .before .before .before in
-    omega (arith, turn line .before .loop .inv .4, begun line .pre .4)
+    omega (arith, turn line .before .loop .inv .4 .0, turn line .before .loop .inv .0, begun line .pre .4)
 
 loop-less : tie.Need-loop-less Inv-loop μ-loop
 loop-less c =
@@ -88,16 +88,16 @@ loop-again c =
       t .1 .0,
       t .1 .1,
       long line,
-      omega (arith, t .0 .after, l .inv .4),
+      (omega (arith, t .0 .after, l .inv .4 .0), omega (arith, l .inv .4 .1)),
       λ start whole g.
           lines-on (a .table) (rows line) start (a .layout) (l .work) (l .inv .5 start whole g) (turn line .loop-test .taken) _ _ _ (line-told line _ (c .before .after .given .1) start),
     )
 
-add-t25 : tie.Need-add-t25 Inv-loop μ-loop
-add-t25 c =
+add-t26 : tie.Need-add-t26 Inv-loop μ-loop
+add-t26 c =
     let line = c .before .before .before .before .before .before in
     let l = turn line .before .loop in
-    omega (arith, l .inv .4, l .inv .0, begun line .pre .4)
+    omega (arith, l .inv .4 .0, l .inv .4 .1, l .inv .0, begun line .pre .4)
 
 same-length : tie.Need-same-length Inv-loop μ-loop
 same-length c =
@@ -127,7 +127,7 @@ returns-2 c =
     let t = line-told line _ (c .before .before .names .given .1) start in
     lines-finished whole (a .layout) (rows line) (a .text .now) (l .live) (l .rules) _ _ (l .work) (left line) (t .1 .1)
     (lines-whole (a .table) (rows line) start (a .layout) (l .work) (l .inv .5 start whole g) (turn line .loop-test .taken) _ _ _ (left line) t (omega (arith, c .if1 .left)))
-    (l .inv .1) (l .inv .2) (omega (arith, t .1 .0, t .0 .within)) (omega (arith, l .inv .4, l .inv .0))
+    (l .inv .1) (l .inv .2) (omega (arith, t .1 .0, t .0 .within)) (omega (arith, l .inv .4 .0, l .inv .0))
 
 same-length-3 : tie.Need-same-length-3 Inv-loop μ-loop
 same-length-3 c =
@@ -141,11 +141,6 @@ returns-3 c =
     let a = begun line .args in
     λ start whole g.
     lines-refused (a .table) (rows line) start (a .layout) (l .work) (l .inv .5 start whole g) (turn line .loop-test .taken) _ _ (left line) (line-told line _ (c .before .number .given .1) start)
-
-add-t26 : tie.Need-add-t26 Inv-loop μ-loop
-add-t26 c =
-    let l = c .before .loop in
-    omega (arith, l .inv .4, l .inv .0, c .before .before .before .before .pre .4)
 
 same-length-4 : tie.Need-same-length-4 Inv-loop μ-loop
 same-length-4 c = c .before .loop .inv .3
@@ -164,14 +159,14 @@ replay-lines-spec =
     Inv-loop
     μ-loop
     loop-holds
-    add-replay-line
     replay-line-requires
     (λ c. search needs)
+    add-line
     add-rules
     loop-less
     loop-again
     (λ c. search needs)
-    add-t25
+    add-t26
     same-length
     returns
     same-length-2
@@ -179,6 +174,5 @@ replay-lines-spec =
     (λ c. search needs)
     same-length-3
     returns-3
-    add-t26
     same-length-4
     returns-4)

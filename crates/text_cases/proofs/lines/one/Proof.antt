@@ -53,7 +53,10 @@ one-spec =
     (λ c. search needs)
     (λ c κs. search needs)
     (λ c κs. search needs)
+    (λ c. search needs)
+    (λ c κs. search needs)
     returns
     returns-2
     returns-3
+    (λ c. search needs)
     (λ c. search needs))
