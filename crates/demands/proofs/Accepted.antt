@@ -26,7 +26,8 @@ use Rattle.logic.proofs.WellFormed.{wellFormed-parts}
 use Rattle.logic.proofs.Kept.{makesAt-kept}
 use Rattle.logic.proofs.Soundness.{makesAt-same}
 use Rattle.logic.proofs.Normal.{clause-noInput}
-use Rattle.demands.specs.TheoryText.{theoryOf, theoryText}
+use Rattle.demands.specs.TheoryText.{theoryOf}
+use Rattle.demands.specs.ValidTheory.{ValidTheory}
 use Rattle.demands.specs.Theory.{formulasOf, namesOf, State, live, ended, liveTheory, initial}
 use Rattle.demands.specs.Replay.{Replayed, derivationOf}
 use Rattle.demands.specs.Ground.{areClauses, isGround, Ground, groundText, groundOf, footerLine}
@@ -36,8 +37,8 @@ use Rattle.demands.specs.memory.Conclusions.{agreed, concludedOf, answer
 use Rattle.demands.proofs.Refusals.{replayed-accepts, checked-accepts}
 use Rattle.demands.proofs.Soundness.{Live, steps-sound}
 use Rattle.demands.proofs.Derivation.{Derived, derivation-exactly}
-use Rattle.demands.proofs.TheoryText.{ValidTheory, theoryOf-reads}
-use Rattle.demands.proofs.Ground.{formulas-numbered, steps-sized, Well, parts-well, falsity-well, passed-well, steps-well, Plain, ground-plain, text-short, read-ground}
+use Rattle.demands.proofs.TheoryText.{theoryOf-exactly}
+use Rattle.demands.proofs.Ground.{formulas-numbered, steps-sized, Well, parts-well, falsity-well, valid-well, steps-well, Plain, ground-plain, text-short, read-ground}
 
 -- Acceptance by the relations.
 
@@ -89,10 +90,10 @@ module _ (problem theory derivation : Bytes) (P : Problem) (T : List Formula) (r
   valid = allowed-done Valid (problemOf problem) P (problemOf-valid problem) readProblem
 
   read : ValidTheory P T
-  read = allowed-done (λ T. ValidTheory P T × (theory ≡ theoryText T)) (theoryOf P theory) T (theoryOf-reads P theory) readTheory .0
+  read = theoryOf-exactly P theory T .0 readTheory .0
 
   first-well : Live (Well P) (initial T)
-  first-well = passed-well P T (read .passed)
+  first-well = valid-well P T (read .formulas)
 
   last-well : Live (Well P) (g .last)
   last-well = steps-well P (initial T) (g .last) (g .written .lines) (g .steps) first-well
@@ -101,7 +102,7 @@ module _ (problem theory derivation : Bytes) (P : Problem) (T : List Formula) (r
   last-plain = ground-plain P valid (g .last) (g .ground) last-well
 
   last-sized : sizesFit (finalFormulas g) ≡ true
-  last-sized = steps-sized P (initial T) (g .last) (g .written .lines) (g .steps) (rw (formulas-numbered 1 T) (read .sized))
+  last-sized = steps-sized P (initial T) (g .last) (g .written .lines) (g .steps) (rw (formulas-numbered 1 T) (and-left _ _ (read .limited)))
 
   pub final-short : length (finalText g) ≤ textSize
   final-short = text-short P (finalFormulas g) last-plain last-sized

@@ -3,9 +3,8 @@
 use Prim.Native.Nat.{ℕ, suc, _+_, _*_, _≤_, _<_}
 use native.Mathlib.Omega.{arith}
 use mathlib.Core.Path.{_≡_, refl, ap, ap₂}
-use mathlib.Core.List.{List, [], _∷_, _++_, append-assoc}
+use mathlib.Core.List.{List, [], _∷_, _++_}
 use mathlib.Core.Bool.{true, false, _&&_}
-use lib.Dec.{leb}
 use lib.ListN.{length, length-append}
 use borrow.Author.Tests.{leb-true, le-leb}
 use Rattle.grammar.specs.Sizes.{textSize, levelCount, variableCount, guardQuantifierCount, formulaCount, theorySize}
@@ -14,7 +13,7 @@ use Rattle.grammar.specs.Problem.{Problem}
 use Rattle.grammar.specs.Derivation.{RuleLine}
 use Rattle.grammar.specs.Each.{Each}
 use Rattle.grammar.specs.Valid.{Valid}
-use Rattle.grammar.proofs.Laws.{and-left, and-right, each-weaken, each-append}
+use Rattle.grammar.proofs.Laws.{and-left, and-right, each-weaken}
 use Rattle.grammar.proofs.Problem.{domain-few, isOutput-small}
 use Rattle.logic.specs.Formula.{Formula, truth, all, Formulas, noParts, part, size}
 use Rattle.logic.specs.Text.{spelled, textOf}
@@ -27,12 +26,13 @@ use Rattle.logic.proofs.Normal.{isClause-clause}
 use Rattle.logic.proofs.GroundSize.{length-ground}
 use Rattle.logic.proofs.Clauses.{clause-variables, clause-guards, clause-form, clause-spelled}
 use Rattle.demands.specs.TheoryText.{theoryOf, theoryText}
+use Rattle.demands.specs.ValidTheory.{ValidFormula}
 use Rattle.demands.specs.Theory.{formulasOf, numbered, State, live, ended, liveTheory, initial}
 use Rattle.demands.specs.Steps.{Step, rewriting, removing, splitting, ending, Steps, stop, go}
 use Rattle.demands.specs.Ground.{areClauses, isGround}
 use Rattle.demands.proofs.Theory.{EachPart}
 use Rattle.demands.proofs.Soundness.{Live, steps-every}
-use Rattle.demands.proofs.TheoryText.{Passed, Fitting, read-theory}
+use Rattle.demands.proofs.TheoryText.{theoryOf-exactly}
 
 pub formulas-numbered : (n : ℕ) (fs : List Formula) → formulasOf (numbered n fs) ≡ fs
 formulas-numbered n [] = refl
@@ -51,16 +51,6 @@ pub steps-sized : (P : Problem) (s u : State) (ls : List RuleLine) → Steps P s
 steps-sized P s u ls (stop v) e = e
 steps-sized P s u ls (go t v w l ms a b) e = steps-sized P v w ms b (step-sized P t v l a)
 
-pub sizeTotal-append : (fs gs : List Formula) → sizeTotal (fs ++ gs) ≡ sizeTotal fs + sizeTotal gs
-sizeTotal-append [] gs = omega arith
-sizeTotal-append (f ∷ fs) gs = rw (sizeTotal-append fs gs) (omega arith)
-
-sizesFit-front : (fs gs : List Formula) → sizesFit (fs ++ gs) ≡ true → sizesFit fs ≡ true
-sizesFit-front fs gs e =
-    let whole = leb-true (sizeTotal (fs ++ gs)) theorySize (and-left _ _ e) in
-    let long = leb-true (length (fs ++ gs)) formulaCount (and-right (leb (sizeTotal (fs ++ gs)) theorySize) _ e) in
-    ap₂ _&&_ (le-leb (sizeTotal fs) theorySize (omega (arith, sizeTotal-append fs gs))) (le-leb (length fs) formulaCount (omega (arith, length-append fs gs)))
-
 -- Well formed.
 
 module _ (P : Problem) where
@@ -75,10 +65,10 @@ module _ (P : Problem) where
   unfolding levelCount
   falsity-well = let some : 0 < 32 = omega arith in ofTruth some
 
-  pub passed-well : (T : List Formula) → Each (Passed P) T → Live Well (initial T)
-  passed-well T p =
+  pub valid-well : (T : List Formula) → Each (ValidFormula P) T → Live Well (initial T)
+  valid-well T v =
       rw (formulas-numbered 1 T)
-      (each-weaken (Passed P) Well (λ f q. tests-wellFormed P f levelCount (q .named) (q .normal) (q .fits .1)) T p)
+      (each-weaken (ValidFormula P) Well (λ f q. tests-wellFormed P f levelCount (q .named) (q .normal) (q .shallow)) T v)
 
   pub steps-well : (s u : State) (ls : List RuleLine) → Steps P s ls u → Live Well s → Live Well u
   steps-well =
@@ -131,17 +121,11 @@ module _ (P : Problem) where
   unfolding variableCount
   plain-limits fs p e = rw (plain-variables fs p, plain-guards fs p, e)
 
-  plain-passed : (f : Formula) → Well f → Plain f → Passed P f
-  plain-passed f w p =
-      let t = wellFormed-tested w in
-      record { fits = (p .wellSpelled, t .isShallow); named = ap₂ _&&_ (t .isKnown) (t .isClosed); normal = p .normal }
-
-  plain-fitting : (fs gs : List Formula) → Each Plain fs → Each Plain gs → Each Well gs → sizesFit (fs ++ gs) ≡ true → Fitting P fs gs
-  plain-fitting fs [] p q w e = tt
-  plain-fitting fs (g ∷ gs) p q w e =
-      let longer = each-append Plain fs (g ∷ []) p (q .0, tt) in
-      let whole : sizesFit ((fs ++ (g ∷ [])) ++ gs) ≡ true = rw (append-assoc fs (g ∷ []) gs) e in
-      (plain-passed g (w .0) (q .0), plain-limits (fs ++ (g ∷ [])) longer (sizesFit-front (fs ++ (g ∷ [])) gs whole), plain-fitting (fs ++ (g ∷ [])) gs longer (q .1) (w .1) whole)
+  plain-valid : (fs : List Formula) → Each Plain fs → Each Well fs → Each (ValidFormula P) fs
+  plain-valid [] p w = tt
+  plain-valid (f ∷ fs) p w =
+      let t = wellFormed-tested (w .0) in
+      (record { wellSpelled = p .0 .wellSpelled; shallow = t .isShallow; named = ap₂ _&&_ (t .isKnown) (t .isClosed); normal = p .0 .normal }, plain-valid fs (p .1) (w .1))
 
   -- The text.
 
@@ -154,4 +138,4 @@ module _ (P : Problem) where
   text-short fs p e = omega (arith, plain-short fs p, leb-true (sizeTotal fs) 4096 (and-left _ _ e))
 
   pub read-ground : (fs : List Formula) → Each Plain fs → Each Well fs → sizesFit fs ≡ true → theoryOf P (theoryText fs) ≡ done fs
-  read-ground fs p w e = read-theory P fs (plain-fitting [] fs tt p w e)
+  read-ground fs p w e = theoryOf-exactly P (theoryText fs) fs .1 (record { formulas = plain-valid fs p w; limited = plain-limits fs p e }, refl)

@@ -1,4 +1,5 @@
 pub mod TheoryText
+pub mod ValidTheory
 pub mod Theory
 pub mod Steps
 pub mod Replay

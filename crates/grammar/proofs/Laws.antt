@@ -1,16 +1,16 @@
--- Laws of truth values, of equal bytes, of runs of stores and of what holds of each of a list, that the kit lacks.
+-- Laws of truth values, of equal bytes, of membership, of runs of stores and of what holds of each of a list, that the kit lacks.
 -- Assumes nothing.
 use Prim.Native.Nat.{ℕ, suc, _+_}
 use native.Mathlib.Nat.{add-zero}
 use native.Mathlib.Omega.{arith}
-use mathlib.Core.Path.{_≡_, refl, sym, ap₂, _∙_}
+use mathlib.Core.Path.{_≡_, refl, sym, ap, ap₂, _∙_}
 use mathlib.Core.List.{List, [], _∷_, _++_}
-use mathlib.Core.Bool.{Bool, true, false, not, _&&_, _||_, Bool·beq, false≢true}
+use mathlib.Core.Bool.{Bool, true, false, not, _&&_, _||_, or-assoc, Bool·beq, false≢true}
 use lib.Dec.{eqb}
 use lib.ListN.{length, set}
 use lib.Seq.{sets}
 use borrow.Author.Tests.{eqb-true, eq-eqb}
-use Rattle.grammar.specs.Bytes.{Bytes, same}
+use Rattle.grammar.specs.Bytes.{Bytes, same, member}
 use Rattle.grammar.specs.Each.{Each}
 
 pub and-left : (a b : Bool) → (a && b) ≡ true → a ≡ true
@@ -47,6 +47,19 @@ same-true [] (b ∷ t) e = absurd (false≢true e)
 same-true (a ∷ s) [] e = absurd (false≢true e)
 same-true (a ∷ s) (b ∷ t) e =
     ap₂ (λ (k : ℕ) (ks : Bytes). k ∷ ks) (eqb-true a b (and-left (eqb a b) (same s t) e)) (same-true s t (and-right (eqb a b) (same s t) e))
+
+pub same-comm : (s t : Bytes) → same s t ≡ same t s
+same-comm s t = pick (same s t) refl (same t s) refl
+  where
+    pick : (b : Bool) → same s t ≡ b → (c : Bool) → same t s ≡ c → b ≡ c
+    pick true e true f = refl
+    pick false e false f = refl
+    pick true e false f = sym (same-refl s) ∙ ap (λ u. same u s) (same-true s t e) ∙ f
+    pick false e true f = sym e ∙ ap (same s) (same-true t s f) ∙ same-refl s
+
+pub member-append : (w : Bytes) (vs us : List Bytes) → member w (vs ++ us) ≡ (member w vs || member w us)
+member-append w [] us = refl
+member-append w (v ∷ vs) us = rw (member-append w vs us) (sym (or-assoc (same w v) (member w vs) (member w us)))
 
 pub each-weaken : {A : Type 0} (Q W : A → Type 0) → ((a : A) → Q a → W a) → (items : List A) → Each Q items → Each W items
 each-weaken Q W h [] q = tt

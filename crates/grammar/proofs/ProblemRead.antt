@@ -1,9 +1,11 @@
 -- The text of a valid problem is read as that problem: each line is read back by the laws of its parts, and adds its predicate or its rows to
--- those before it, which fit as the whole is valid. By induction over the inputs, and then the outputs, that are still to come.
+-- those before it, which fit as the whole is valid. By induction over the inputs, and then the outputs, that are still to come. So just the valid
+-- problems are read, each from its own text.
 -- Assumes nothing.
 use Prim.Native.Nat.{ℕ, suc, zero, _+_, _-_, _≤_, _<_}
 use native.Mathlib.Omega.{arith}
 use mathlib.Core.Path.{_≡_, refl, ap, ap₂, _∙_}
+use mathlib.Core.Logic.{_↔_}
 use mathlib.Core.List.{List, [], _∷_, _++_, flatMap, append-nil, append-assoc, map, map-append}
 use mathlib.Core.Bool.{Bool, true, false, not, cond, _&&_, _||_, false≢true}
 use lib.Dec.{eqb, eqb·suc-zero}
@@ -26,7 +28,9 @@ use Rattle.grammar.proofs.Laws.{and-left, and-right, or-left, or-right,
 use Rattle.grammar.proofs.Numbers.{decimal-first}
 use Rattle.grammar.proofs.Lines.{readLines-step, readLines-end}
 use Rattle.grammar.proofs.Reading.{ReadsBack, read-token, read-number, read-separated, oneOf-last, next-append}
+use Rattle.grammar.proofs.Outcome.{allowed-done}
 use Rattle.grammar.proofs.Problem.{occurrences-append, named-occurrences, tupleTotal-append}
+use Rattle.grammar.proofs.ProblemText.{problemOf-reads}
 
 -- a problem of these parts
 abbrev problem : ℕ → List Input → List Predicate → Problem
@@ -197,8 +201,11 @@ module _ (n : ℕ) (outs : List Predicate) where
       (rw append-snoc at (leads-inputs (before ++ (i ∷ [])) after (rw append-snoc valid)))))
 
 -- the text of a valid problem is read as that problem
-pub read-problem : (P : Problem) → Valid P → problemOf (problemText P) ≡ done P
+read-problem : (P : Problem) → Valid P → problemOf (problemText P) ≡ done P
 unfolding problemOf problemText domainText domainSize
 read-problem P valid =
     leads-line (domainText (P .domain)) (omega arith) (read-domain (P .domain) _ (valid .least) (valid .greatest))
     (leads-inputs (P .domain) (P .outputs) [] (P .inputs) valid) .reads _ 1 (omega arith)
+
+pub problemOf-exactly : (text : Bytes) (P : Problem) → (problemOf text ≡ done P) ↔ (Valid P × (text ≡ problemText P))
+problemOf-exactly text P = (allowed-done _ (problemOf text) P (problemOf-reads text), λ (valid, e). rw e (read-problem P valid))

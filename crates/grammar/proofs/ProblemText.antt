@@ -146,10 +146,3 @@ problemOf-reads s =
 
 pub problemOf-valid : (s : Bytes) → Allowed Valid (problemOf s)
 problemOf-valid s = allowed-weaken _ Valid (λ P h. h .0) (problemOf s) (problemOf-reads s)
-
-pub problemOf-text : (s : Bytes) → Allowed (λ P. s ≡ problemText P) (problemOf s)
-problemOf-text s = allowed-weaken _ _ (λ P h. h .1) (problemOf s) (problemOf-reads s)
-
--- so it was read from no other text
-pub problemOf-once : (s t : Bytes) (P : Problem) → problemOf s ≡ done P → problemOf t ≡ done P → s ≡ t
-problemOf-once s t P e f = allowed-done _ (problemOf s) P (problemOf-text s) e ∙ sym (allowed-done _ (problemOf t) P (problemOf-text t) f)

@@ -1,5 +1,5 @@
 -- Where the replay begins: what memory holds of a theory's text is what it holds of the first state, by the naming of the variables' table and the problem's
--- predicates. Each formula is well formed and can be held, since it passed the tests of its line and its variables are in the table.
+-- predicates. Each formula is well formed and can be held, since it is valid and its variables are in the table.
 -- Assumes nothing.
 use Prim.Native.Nat.{ℕ, _≤_}
 use mathlib.Core.Path.{_≡_, refl, sym, ap, _∙_}
@@ -14,15 +14,14 @@ use Rattle.grammar.specs.Problem.{Name, Problem}
 use Rattle.grammar.specs.Each.{Each}
 use Rattle.grammar.specs.Valid.{Valid}
 use Rattle.grammar.proofs.Laws.{and-left, and-right, each-left, each-right}
-use Rattle.grammar.proofs.Outcome.{allowed-done}
 use Rattle.logic.specs.Formula.{Formula}
 use Rattle.logic.specs.Names.{known}
 use Rattle.logic.specs.Limits.{variables, theoryVariables, sizeTotal, sizesFit}
 use Rattle.logic.specs.Meaning.{countFrom}
-use Rattle.demands.specs.TheoryText.{theoryOf}
+use Rattle.demands.specs.ValidTheory.{ValidFormula}
 use Rattle.demands.specs.Theory.{initial}
-use Rattle.demands.proofs.Ground.{formulas-numbered, passed-well}
-use Rattle.demands.proofs.TheoryText.{Passed, theoryOf-reads}
+use Rattle.demands.proofs.Ground.{formulas-numbered, valid-well}
+use Rattle.demands.proofs.TheoryText.{theoryOf-exactly}
 use Rattle.table.specs.memory.Table.{position, tableNames, problemIn}
 use Rattle.table.specs.declared.table.Table.{Table}
 use Rattle.words.proofs.memory.Naming.{Naming, Storable}
@@ -50,8 +49,8 @@ module _ {P : Problem} {text : Bytes} {index : Name → ℕ} {count full : ℕ} 
       rw (found .counted)
       (leb-true (length (found .formulas)) 1024 (and-right (leb (sizeTotal (found .formulas)) theorySize) _ found-sized))
 
-  found-passed : Each (Passed P) (found .formulas)
-  found-passed = allowed-done _ (theoryOf P text) (found .formulas) (theoryOf-reads P text) (found .is) .0 .passed
+  found-valid : Each (ValidFormula P) (found .formulas)
+  found-valid = theoryOf-exactly P text (found .formulas) .0 (found .is) .0 .formulas
 
   -- every variable is in the table
   found-variables : Each (λ x. member x (namesIn text names) ≡ true) (theoryVariables (found .formulas))
@@ -75,7 +74,7 @@ module _ (problem : Bytes) (table : Table) (rows : List ℕ) (inside : table .in
     abbrev N : Naming
     N = problemNaming P valid variableNames (tableNames problem table) few (tableNames-in problem table rows inside)
 
-    each-storable : (fs : List Formula) → Each (Passed P) fs → Each (λ x. member x variableNames ≡ true) (theoryVariables fs) → Each (Storable N) fs
+    each-storable : (fs : List Formula) → Each (ValidFormula P) fs → Each (λ x. member x variableNames ≡ true) (theoryVariables fs) → Each (Storable N) fs
     each-storable [] p h = tt
     each-storable (f ∷ fs) p h = (
       storable-known P valid variableNames (tableNames problem table) few (tableNames-in problem table rows inside) f (and-left (known P f) _ (p .0 .named))
@@ -92,8 +91,8 @@ module _ (problem : Bytes) (table : Table) (rows : List ℕ) (inside : table .in
         naming = N (namesIn text names) few;
         index = λ p. refl;
         sound = sound-first (N (namesIn text names) few) problem table rows inside valid (λ p. refl) T
-            (rw (formulas-numbered 1 T) at (passed-well P T (found-passed found)))
-            (each-storable (namesIn text names) few T (found-passed found) (found-variables found))
+            (rw (formulas-numbered 1 T) at (valid-well P T (found-valid found)))
+            (each-storable (namesIn text names) few T (found-valid found) (found-variables found))
             (found-sized found);
         holds = held-first (N (namesIn text names) few) T ∙ rw (found .stored, found .counted);
       }

@@ -3,6 +3,7 @@
 use Prim.Native.Nat.{ℕ, suc, zero, _≤_}
 use native.Mathlib.Omega.{arith}
 use mathlib.Core.Path.{_≡_, refl, ap, ap₂, _∙_}
+use mathlib.Core.Logic.{_↔_}
 use mathlib.Core.List.{List, [], _∷_, _++_, append-nil, append-assoc, map}
 use mathlib.Core.Bool.{Bool, true, false, not, _&&_, _||_, and-false, false≢true}
 use lib.Dec.{eqb, leb}
@@ -15,7 +16,8 @@ use Rattle.grammar.specs.Problem.{Name, isName, readName}
 use Rattle.grammar.specs.Each.{Each}
 use Rattle.grammar.proofs.Laws.{and-left, and-right, or-left, or-right, each-weaken}
 use Rattle.grammar.proofs.Numbers.{decimal-first}
-use Rattle.grammar.proofs.Reading.{OneOrMore, each-some, Reads, reads-refuse, reads-give, reads-then, reads-weaken, reads-cond}
+use Rattle.grammar.proofs.Outcome.{allowed-done}
+use Rattle.grammar.proofs.Reading.{OneOrMore, each-some, Read, Reads, reads-refuse, reads-give, reads-then, reads-weaken, reads-cond}
 use Rattle.grammar.proofs.Reading.{reads-word, reads-token, reads-number, reads-oneOf, reads-separated}
 use Rattle.grammar.proofs.Reading.{ReadsBack, read-token, read-number, read-separated, oneOf-word, oneOf-last, next-append}
 use Rattle.logic.specs.Formula.{Term, element, variable, Terms, noTerms, term, termsOf}
@@ -374,3 +376,13 @@ pub read-formula : (l : ℕ) (f : Formula) → FitsIn l f → ReadsBack continue
 unfolding readFormula
 read-formula zero f fits = absurd (omega (arith, depth-positive f))
 read-formula (suc l) f fits = read-level l (readFormula l) (read-formula l) f fits
+
+-- So a whole text is read as a formula exactly if it is that formula's text.
+pub readFormula-exactly : (levels : ℕ) (text : Bytes) (f : Formula)
+    → (readFormula levels text ≡ done (f, [])) ↔ ((spelled f ≡ true) × (depth f ≤ levels) × (text ≡ textOf f))
+readFormula-exactly levels text f = (there, λ (well, deep, e). rw (e, ← append-nil (textOf f)) (read-formula levels f (well, deep) [] refl))
+  where
+    there : readFormula levels text ≡ done (f, []) → (spelled f ≡ true) × (depth f ≤ levels) × (text ≡ textOf f)
+    there e =
+        let (fits, is) = allowed-done (Read (FitsIn levels) textOf text) (readFormula levels text) (f, []) (reads-formula levels .sound text) e in
+        (fits .0, fits .1, is ∙ append-nil (textOf f))

@@ -22,8 +22,8 @@ use Rattle.grammar.specs.Problem.{Name, Problem}
 use Rattle.grammar.proofs.Laws.{and-left, and-right}
 use Rattle.logic.specs.Formula.{Formula, partsOf, size}
 use Rattle.logic.specs.Limits.{differentCount, namesShort, guardQuantifiers, theoryVariables, guardsFit, sizeTotal, sizesFit, limitsFit}
+use Rattle.logic.proofs.Limits.{sizeTotal-append}
 use Rattle.demands.specs.TheoryText.{theoryLine, theoryOf}
-use Rattle.demands.proofs.Ground.{sizeTotal-append}
 use Rattle.text.specs.memory.Going.{Going}
 use Rattle.text.proofs.Going.{going-first, going-on, going-refused, going-end}
 use Rattle.table.specs.memory.Table.{indexed}

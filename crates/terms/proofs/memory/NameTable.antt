@@ -6,7 +6,7 @@ use native.Mathlib.Numerals.{add-one, sub-one}
 use native.Mathlib.Omega.{arith}
 use mathlib.Core.Path.{_≡_, refl, sym, ap, ap₂, _∙_}
 use mathlib.Core.List.{List, [], _∷_, _++_}
-use mathlib.Core.Bool.{Bool, true, false, cond, _||_, or-true, or-assoc, false≢true}
+use mathlib.Core.Bool.{Bool, true, false, cond, _||_, or-true, false≢true}
 use lib.Dec.{leb, ltb, leb·suc-suc}
 use lib.ListN.{length, getD, take, drop, set, length-set}
 use lib.Seq.{getD-set-same, getD-set-other}
@@ -15,7 +15,7 @@ use Rattle.grammar.specs.Sizes.{nameSize, variableCount}
 use Rattle.grammar.specs.Bytes.{Bytes, same, member}
 use Rattle.grammar.specs.Problem.{Name}
 use Rattle.grammar.specs.Each.{Each}
-use Rattle.grammar.proofs.Laws.{or-left, or-right, same-refl}
+use Rattle.grammar.proofs.Laws.{or-left, or-right, same-refl, member-append}
 use Rattle.logic.specs.Limits.{namesShort}
 use Rattle.table.specs.memory.Table.{position, indexed}
 use Rattle.table.proofs.Tables.{length-indexed, indexed-append, indexed-agree}
@@ -41,10 +41,6 @@ module _ (x : Name) where
       pick : (b : Bool) → member x names ≡ ltb (position x names) (length names) → (b || member x names) ≡ ltb (cond b 0 (suc (position x names))) (suc (length names))
       pick true e = sym (lt-ltb 0 (suc (length names)) (omega arith))
       pick false e = e ∙ sym (leb·suc-suc (suc (position x names)) (length names))
-
-  pub member-append : (names more : List Name) → member x (names ++ more) ≡ (member x names || member x more)
-  member-append [] more = refl
-  member-append (y ∷ names) more = rw (member-append names more) (sym (or-assoc (same x y) (member x names) (member x more)))
 
   position-append : (names more : List Name) → position x (names ++ more) ≡ cond (member x names) (position x names) (length names + position x more)
   unfolding position

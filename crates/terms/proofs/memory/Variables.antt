@@ -12,10 +12,9 @@ use borrow.Author.Tests.{le-leb, lt-leb, leb-true, leb-false}
 use Rattle.grammar.specs.Sizes.{nameSize, variableCount}
 use Rattle.grammar.specs.Bytes.{same, member}
 use Rattle.grammar.specs.Problem.{Name}
-use Rattle.grammar.proofs.Laws.{same-refl, same-true}
+use Rattle.grammar.proofs.Laws.{same-refl, same-true, same-comm, member-append}
 use Rattle.logic.specs.Limits.{differentCount, namesShort}
 use Rattle.terms.specs.memory.NameTable.{extended, extendedBy, listFits}
-use Rattle.terms.proofs.memory.NameTable.{member-append}
 
 -- how many different names of a list are not in a table
 newCount : List Name → List Name → ℕ
@@ -26,15 +25,6 @@ newCount-none : (xs : List Name) → newCount [] xs ≡ differentCount xs
 unfolding newCount
 newCount-none [] = refl
 newCount-none (x ∷ xs) = rw (newCount-none xs)
-
-same-comm : (x y : Name) → same x y ≡ same y x
-same-comm x y = pick (same x y) refl (same y x) refl
-  where
-    pick : (b : Bool) → same x y ≡ b → (c : Bool) → same y x ≡ c → b ≡ c
-    pick true e true f = refl
-    pick false e false f = refl
-    pick true e false f = sym (same-refl x) ∙ ap (λ z. same z x) (same-true x y e) ∙ f
-    pick false e true f = sym e ∙ ap (same x) (same-true y x f) ∙ same-refl x
 
 -- a table with a name more lacks that name no longer
 module _ (names : List Name) (x : Name) (new : member x names ≡ false) where
