@@ -28,7 +28,7 @@ use Rattle.logic.proofs.Soundness.{makesAt-same}
 use Rattle.logic.proofs.Normal.{clause-noInput}
 use Rattle.demands.specs.TheoryText.{theoryOf}
 use Rattle.demands.specs.ValidTheory.{ValidTheory}
-use Rattle.demands.specs.Theory.{formulasOf, namesOf, State, live, ended, liveTheory, initial}
+use Rattle.demands.specs.Theory.{formulasOf, namesOf, State, live, ended, liveTheory, initial, stepped}
 use Rattle.demands.specs.Replay.{Replayed, derivationOf}
 use Rattle.demands.specs.Ground.{areClauses, isGround, Ground, groundText, groundOf, footerLine}
 use Rattle.demands.specs.Answer.{differenceLine, grounded, replayed, checked, replayResult, checkResult}
@@ -36,7 +36,7 @@ use Rattle.demands.specs.Accepted.{Grounds, finalFormulas, finalText}
 use Rattle.demands.specs.memory.Conclusions.{agreed, concludedOf, answeredOf}
 use Rattle.demands.proofs.Refusals.{replayed-accepts, checked-accepts}
 use Rattle.demands.proofs.Soundness.{Live, steps-sound}
-use Rattle.demands.proofs.Derivation.{Derived, derivation-exactly}
+use Rattle.demands.proofs.Derivation.{Derived, derivationFrom-exactly, moved-steps, steps-moved}
 use Rattle.demands.proofs.TheoryText.{theoryOf-exactly}
 use Rattle.demands.proofs.Ground.{formulas-numbered, steps-sized, Well, parts-well, falsity-well, valid-well, steps-well, Plain, ground-plain, text-short, read-ground}
 
@@ -50,7 +50,7 @@ module _ (P : Problem) (T : List Formula) (derivation : Bytes) where
   abbrev pub GroundedBy : Ground → Type 0
   GroundedBy G = (g : Grounds P T derivation) × (G ≡ groundBy g)
 
-  ground-says : (D : Replayed State) → Derived P T derivation D → Allowed GroundedBy (groundOf P D)
+  ground-says : (D : Replayed State) → Derived (stepped P) (initial T) derivation D → Allowed GroundedBy (groundOf P D)
   unfolding groundOf
   ground-says D d =
       allowed-bind _ GroundedBy _
@@ -61,7 +61,7 @@ module _ (P : Problem) (T : List Formula) (derivation : Bytes) where
           last = D .last;
           fits = d .fits;
           text = d .text;
-          steps = d .steps;
+          steps = moved-steps P (d .derivation .lines) (initial T) (D .last) (d .leads);
           listed = sym (d .listed) ∙ same-true (D .final) (namesOf (liveTheory (D .last))) listed;
           ground = ground;
         },
@@ -73,13 +73,14 @@ module _ (P : Problem) (T : List Formula) (derivation : Bytes) where
 
   pub derivation-says : Allowed GroundedBy (derivationOf P T derivation >>= groundOf P)
   derivation-says =
-      allowed-bind _ GroundedBy (groundOf P) (λ D e. ground-says D (derivation-exactly P T derivation D .0 e)) (derivationOf P T derivation) (allowed-itself (derivationOf P T derivation))
+      allowed-bind _ GroundedBy (groundOf P) (λ D e. ground-says D (derivationFrom-exactly (stepped P) (initial T) derivation D .0 e)) (derivationOf P T derivation) (allowed-itself (derivationOf P T derivation))
 
   pub derivation-grounds : (g : Grounds P T derivation) → (derivationOf P T derivation >>= groundOf P) ≡ done (groundBy g)
   unfolding groundOf
   derivation-grounds g =
       let D : Replayed State = record { last = g .last; rules = length (g .written .lines); final = g .written .final } in
-      let e = derivation-exactly P T derivation D .1 (record { derivation = g .written; fits = g .fits; text = g .text; steps = g .steps; counted = refl; listed = refl }) in
+      let e = derivationFrom-exactly (stepped P) (initial T) derivation D .1
+      (record { derivation = g .written; fits = g .fits; text = g .text; leads = steps-moved P (g .steps); counted = refl; listed = refl }) in
       rw (e, g .listed, same-refl (namesOf (liveTheory (g .last))), g .ground)
 
 -- What a derivation that grounds a theory promises, where problem and theory were read.

@@ -3,6 +3,7 @@ pub mod ValidTheory
 pub mod Theory
 pub mod Steps
 pub mod Replay
+pub mod Written
 pub mod Ground
 pub mod Answer
 pub mod Accepted

