@@ -1,5 +1,5 @@
 -- A rule line on a state, as the function has it, is a step of the relation, and each step of the relation is the function's: by what stands
--- around the formula that the line names.
+-- around the formula that the line names. And the replay has ended exactly if the last line is UNSAT.
 -- Assumes nothing.
 use Prim.Native.Nat.{ℕ}
 use mathlib.Core.Path.{_≡_, refl, ap}
@@ -9,7 +9,7 @@ use lib.Dec.{eqb}
 use borrow.Author.Tests.{eqb-true, eq-eqb, not-true}
 use Rattle.grammar.specs.Outcome.{Outcome, done, refused, mapped, provided, _>>=_, _>>_}
 use Rattle.grammar.specs.Problem.{Problem}
-use Rattle.grammar.specs.Derivation.{Rule, RuleLine, rewrite, unsat, trivial, splitc}
+use Rattle.grammar.specs.Derivation.{Rule, RuleLine, rewrite, unsat, trivial, splitc, isUnsat, endsInUnsat}
 use Rattle.grammar.proofs.Laws.{and-left, and-right}
 use Rattle.grammar.proofs.Outcome.{Allowed, allowed-mapped, allowed-bind, allowed-weaken, allowed-provided}
 use Rattle.logic.specs.Formula.{Formula, truth, connective, Formulas, noParts, part, Side, all, any, junction}
@@ -19,7 +19,7 @@ use Rattle.logic.specs.Tables.{AtPath, MakesAt}
 use Rattle.logic.proofs.Rules.{onJunction-cases, isTruth-true}
 use Rattle.logic.proofs.Tables.{at-path, path-never, at-makes, makes-at}
 use Rattle.demands.specs.Theory.{entry, Theory, formulasOf, State, live, ended, liveTheory, inPlace, wholeOnly, removed, refuted, namedParts, splitParts, split, climbing, highest, within, stepped}
-use Rattle.demands.specs.Steps.{position, absent, Named, nobody, somebody, Step, rewriting, removing, splitting, ending}
+use Rattle.demands.specs.Steps.{position, absent, Named, nobody, somebody, Step, rewriting, removing, splitting, ending, Steps, stop, go}
 
 -- a formula of that name stands in a theory, and what Q says it may become stands in its place in another
 pub record Placed (Q : Formula → Theory → Type 0) (n : ℕ) (t u : Theory) : Type 0 where
@@ -214,3 +214,21 @@ module _ (P : Problem) where
   step-stepped s u l (splitting n names before parts after f fs top a c w e) =
       rw (place-in n (λ f. provided (climbing top names) 11 >> split names f) before after parts (connective (junction all) (part f fs)) a (rw (c, named-parts names (part f fs) parts w)), e)
   step-stepped s u l (ending n before after top a) = rw (place-in n (wholeOnly [] refuted) before after [] (truth false) a refl)
+
+-- UNSAT is the last line: none is allowed after it.
+
+abbrev pub hasEnded : State → Bool
+hasEnded (live t used) = false
+hasEnded (ended n used) = true
+
+module _ (P : Problem) where
+  step-ended : (s u : State) (l : RuleLine) → Step P s l u → (hasEnded s ≡ false) × (hasEnded u ≡ isUnsat l)
+  step-ended s u l (rewriting r n path before after f h top a m e) = (refl, refl)
+  step-ended s u l (removing n before after top a e) = (refl, refl)
+  step-ended s u l (splitting n names before parts after f fs top a c w e) = (refl, refl)
+  step-ended s u l (ending n before after top a) = (refl, refl)
+
+  pub steps-ended : (s u : State) (ls : List RuleLine) → Steps P s ls u → hasEnded s ≡ false → hasEnded u ≡ endsInUnsat ls
+  steps-ended s u ls (stop v) e = e
+  steps-ended s u ls (go t v w l [] a (stop x)) e = step-ended t v l a .1
+  steps-ended s u ls (go t v w l (m ∷ ms) a (go x y z k ks b c)) e = steps-ended v w (m ∷ ms) (go x y z k ks b c) (step-ended v y m b .0)

@@ -1,7 +1,7 @@
 -- Derivation lines: their text, and their reading with number 10.
 use Prim.Native.Nat.{ℕ}
 use mathlib.Core.List.{List, [], _∷_, _++_, map}
-use mathlib.Core.Bool.{Bool, false, _&&_}
+use mathlib.Core.Bool.{Bool, true, false, _&&_}
 use lib.Dec.{leb}
 use lib.ListN.{length}
 use Rattle.grammar.specs.Sizes.{greatestName, greatestPathNumber, grounderSize}
@@ -33,6 +33,19 @@ pub record Derivation : Type 0 where
   pub grounder : Bytes
   pub lines : List RuleLine
   pub final : List ℕ
+
+-- an UNSAT line
+abbrev pub isUnsat : RuleLine → Bool
+isUnsat (rewrite r p) = false
+isUnsat (unsat p) = true
+isUnsat (trivial p) = false
+isUnsat (splitc p names) = false
+
+-- the derivation ends in UNSAT: its last rule line is one
+abbrev pub endsInUnsat : List RuleLine → Bool
+endsInUnsat [] = false
+endsInUnsat (l ∷ []) = isUnsat l
+endsInUnsat (l ∷ m ∷ ls) = endsInUnsat (m ∷ ls)
 
 -- Which are well formed.
 
