@@ -1,158 +1,177 @@
--- The demands on the jobs' answers. Demand 2: a derivation is accepted exactly if each line is allowed and its final formulas are the claim.
--- Demand 3: what is accepted means what the theory means. Every name in the public statements is a definition of specs/.
+-- The demands, on one page: every name in a statement is a definition of grammar/specs, logic/specs or demands/specs, and each proof cites what is proved beside
+-- this module. Of a job's outcome, which is its answer `r`, the output `new` and working memory `left`, nothing is assumed but the job's `Promise`, as its contract has it.
 -- Assumes nothing.
 use Prim.Native.Nat.{ℕ, _≤_}
-use mathlib.Core.Path.{_≡_, refl, sym, ap, _∙_, subst}
+use mathlib.Core.Path.{_≡_, sym, _∙_}
 use mathlib.Core.Logic.{_↔_}
-use mathlib.Core.List.{List, [], _∷_, _++_}
-use mathlib.Core.Bool.{Bool, true, false, not}
+use mathlib.Core.List.{List, [], _++_}
+use mathlib.Core.Bool.{true, false, not}
 use lib.ListN.{length, drop}
-use borrow.Author.Tests.{le-leb}
-use Rattle.grammar.specs.Sizes.{textSize, theorySize, formulaCount}
+use Rattle.grammar.specs.Sizes.{textSize, workSize}
 use Rattle.grammar.specs.Bytes.{Bytes, bytes, every}
 use Rattle.grammar.specs.Outcome.{done}
 use Rattle.grammar.specs.Problem.{Problem, problemOf, isInput}
-use Rattle.grammar.proofs.Laws.{same-refl, same-true}
-use Rattle.grammar.proofs.Outcome.{allowed-done}
-use Rattle.logic.specs.Formula.{Formula, truth, size}
+use Rattle.grammar.specs.ProblemText.{problemText}
+use Rattle.grammar.specs.Valid.{Valid}
+use Rattle.grammar.specs.Derivation.{Derivation, derivationFits, derivationText, endsInUnsat}
+use Rattle.grammar.proofs.ProblemRead.{problemOf-exactly}
+use Rattle.logic.specs.Formula.{Formula, depth}
+use Rattle.logic.specs.Text.{textOf, spelled}
+use Rattle.logic.specs.Reading.{readFormula}
 use Rattle.logic.specs.Normal.{mentionsOnly}
-use Rattle.logic.specs.Text.{textOf}
-use Rattle.logic.specs.Meaning.{Structure, Extends, holds, satisfies}
-use Rattle.demands.specs.TheoryText.{theoryOf}
-use Rattle.demands.specs.Theory.{ended, liveTheory}
+use Rattle.logic.specs.Meaning.{Structure, Extends, satisfies}
+use Rattle.logic.proofs.Reading.{readFormula-exactly}
+use Rattle.demands.specs.TheoryText.{theoryOf, theoryText}
+use Rattle.demands.specs.ValidTheory.{ValidTheory}
+use Rattle.demands.specs.Written.{writtenOf}
 use Rattle.demands.specs.Ground.{Ground, groundText}
 use Rattle.demands.specs.Answer.{grounded, replayed, checked, Result, replayResult, checkResult}
-use Rattle.demands.specs.Accepted.{Grounds, finalFormulas, finalText, accepts, Fits, Equivalent}
-use Rattle.demands.specs.memory.Conclusions.{agreed, answeredOf}
-use Rattle.demands.proofs.Theory.{length-names, length-formulas}
-use Rattle.demands.proofs.Ground.{falsity-well, falsity-plain, read-ground}
-use Rattle.demands.proofs.Accepted.{groundBy, GroundedBy, derivation-grounds, Judges, grounded-judges, Answered, check-answered, replay-answered, final-short, final-read, final-same, final-unsat, final-plain}
+use Rattle.demands.specs.Accepted.{Grounds, finalFormulas, finalText, accepts, Fits}
+use Rattle.demands.specs.Refused.{Refused}
+use Rattle.demands.specs.Promise.{Promise}
+use Rattle.demands.specs.declared.answer.Answer.{Answer}
+use Rattle.demands.proofs.TheoryText.{theoryOf-exactly}
+use Rattle.demands.proofs.Derivation.{writtenOf-exactly}
+use Rattle.demands.proofs.Refusals.{replayed-refuses, checked-refuses}
+use Rattle.demands.proofs.Final.{final-once, final-read, final-same, final-unsat, final-nowhere, final-refuted, final-plain}
+use Rattle.demands.proofs.Accepted.{grounded-short, check-reads, check-grounds, demand-two, demand-two-result, replay-reads, replay-grounds, replay-two, replay-two-result}
+use Rattle.demands.proofs.Promises.{promised-number, promised-exactly, promised-as, promised-refused, promised-unseen}
+
+-- ONE READING, ONE TEXT: a text is read as a thing exactly if the thing is valid and the text is its text.
+
+pub problem-text : (text : Bytes) (P : Problem) → (problemOf text ≡ done P) ↔ (Valid P × (text ≡ problemText P))
+problem-text = problemOf-exactly
+
+pub theory-text : (P : Problem) (text : Bytes) (T : List Formula) → (theoryOf P text ≡ done T) ↔ (ValidTheory P T × (text ≡ theoryText T))
+theory-text = theoryOf-exactly
+
+-- read to the text's end, with so many levels left
+pub formula-text : (levels : ℕ) (text : Bytes) (f : Formula)
+    → (readFormula levels text ≡ done (f, [])) ↔ ((spelled f ≡ true) × (depth f ≤ levels) × (text ≡ textOf f))
+formula-text = readFormula-exactly
+
+pub derivation-text : (text : Bytes) (D : Derivation) → (writtenOf text ≡ done D) ↔ ((derivationFits D ≡ true) × (text ≡ derivationText D))
+derivation-text = writtenOf-exactly
+
+-- DEMAND 3, of every derivation that grounds a valid theory of a valid problem.
+
+-- A text is one derivation, and that leads to one list of final formulas.
+pub grounds-once : {P : Problem} {T : List Formula} {derivation : Bytes} (g h : Grounds P T derivation) → (g .written ≡ h .written) × (finalFormulas g ≡ finalFormulas h)
+grounds-once = final-once
+
+module _ {P : Problem} {T : List Formula} {derivation : Bytes} (valid : Valid P) (validTheory : ValidTheory P T) (g : Grounds P T derivation) where
+  -- In every structure that extends the input structure the theory holds exactly if the final formulas do.
+  pub demand-three : (S : Structure) → Extends P S → satisfies S T ≡ satisfies S (finalFormulas g)
+  demand-three = final-same valid validTheory g
+
+  -- Their text is read as these formulas, and so means what they mean.
+  pub demand-three-text : theoryOf P (finalText g) ≡ done (finalFormulas g)
+  demand-three-text = final-read valid validTheory g
+
+  -- None of them mentions an input predicate, which a solver could choose freely.
+  pub demand-three-outputs : every (mentionsOnly (λ p. not (isInput P p))) (finalFormulas g) ≡ true
+  demand-three-outputs = final-plain valid validTheory g
+
+  -- The derivation ends in UNSAT exactly if their text is `false` alone;
+  pub demand-three-false : (endsInUnsat (g .written .lines) ≡ true) ↔ (finalText g ≡ bytes "false\n")
+  demand-three-false = final-unsat valid validTheory g
+
+  -- then no structure that extends the input structure satisfies the theory.
+  pub demand-three-unsat : endsInUnsat (g .written .lines) ≡ true → (S : Structure) → Extends P S → satisfies S T ≡ false
+  demand-three-unsat = final-nowhere valid validTheory g
 
 -- Under the limits a ground text has at most 65,536 bytes.
 pub ground-short : (problem theory derivation : Bytes) (G : Ground) → grounded problem theory derivation ≡ done G → length (groundText G) ≤ textSize
-ground-short problem theory derivation G e =
-    let j = allowed-done _ (grounded problem theory derivation) G (grounded-judges problem theory derivation) e in
-    rw (j .is) (final-short problem theory derivation (j .P) (j .T) (j .readProblem) (j .readTheory) (j .grounds))
+ground-short = grounded-short
 
-judges-equivalent : (problem theory derivation : Bytes) (G : Ground) → Judges problem theory derivation G → Equivalent problem theory (groundText G)
-judges-equivalent problem theory derivation G j = rw (j .is) record {
-  P = j .P;
-  T = j .T;
-  G = finalFormulas (j .grounds);
-  readProblem = j .readProblem;
-  readTheory = j .readTheory;
-  readGround = final-read problem theory derivation (j .P) (j .T) (j .readProblem) (j .readTheory) (j .grounds);
-  agree = final-same problem theory derivation (j .P) (j .T) (j .readProblem) (j .readTheory) (j .grounds);
-}
+-- THE JOB CHECK, of every outcome that its promise allows.
 
--- texts are read as one problem and one theory
-judges-grounds : (problem theory derivation : Bytes) (P : Problem) (T : List Formula) → problemOf problem ≡ done P → theoryOf P theory ≡ done T
-    → (G : Ground) → Judges problem theory derivation G → GroundedBy P T derivation G
-judges-grounds problem theory derivation P T readProblem readTheory G j =
-    let p : j .P ≡ P = cc (j .readProblem, readProblem) in
-    let t : j .T ≡ T = cc (j .readTheory, readTheory, p) in
-    subst (λ q. GroundedBy q T derivation G) p (subst (λ u. GroundedBy (j .P) u derivation G) t (j .grounds, j .is))
+module _ (problem theory derivation claim : Bytes) (output work : List ℕ) {r : Answer} {new left : List ℕ}
+    (promise : Promise (checkResult problem theory derivation claim output work) r new left) where
+  -- Demand 1: a refusal has a number of the table, its file and line, no counts, and keeps the output.
+  pub check-one : (r .number ≡ 0 → ⊥) → Refused 19 output r new
+  check-one = promised-refused (checked-refuses problem theory derivation claim output work) output work promise
 
--- as many names are listed as formulas are left
-listed-count : {P : Problem} {T : List Formula} {derivation : Bytes} (g : Grounds P T derivation) → length (finalFormulas g) ≡ length (g .written .final)
-listed-count g = rw (g .listed) (length-formulas (liveTheory (g .last)) ∙ sym (length-names (liveTheory (g .last))))
+  -- Nothing is accepted but texts within their sizes that are a problem and a theory, with working memory long enough.
+  pub check-valid : r .number ≡ 0
+      → Fits problem theory derivation claim work × ((P : Problem) × (T : List Formula) × (problemOf problem ≡ done P) × (theoryOf P theory ≡ done T))
+  check-valid e = check-reads problem theory derivation claim output work (sym (promised-number promise) ∙ e)
 
--- Either job, with a claim to compare or without: it accepts exactly what a derivation grounds.
-module _ (compare : Bool) (problem theory derivation claim : Bytes) (output : List ℕ)
-    (P : Problem) (T : List Formula) (readProblem : problemOf problem ≡ done P) (readTheory : theoryOf P theory ≡ done T) where
-  answered-grounds : (G : Ground) → Answered problem theory derivation output compare claim G
-      → (g : Grounds P T derivation) × (agreed compare claim (finalText g) ≡ true) × (length (finalText g) ≤ length output)
-  answered-grounds G a =
-      let (g, is) = judges-grounds problem theory derivation P T readProblem readTheory G (a .judges) in
-      (g, rw is at (a .agrees), rw is at (a .room))
-
-  grounds-answered : (work : List ℕ) → Fits problem theory derivation claim work → (g : Grounds P T derivation) → agreed compare claim (finalText g) ≡ true
-      → length (finalText g) ≤ length output → answeredOf compare problem theory derivation claim output work ≡ done (groundBy g)
-  grounds-answered work fits g agrees long =
-      rw (
-        le-leb _ _ (fits .longWork),
-        le-leb _ _ (fits .shortProblem),
-        le-leb _ _ (fits .shortTheory),
-        le-leb _ _ (fits .shortDerivation),
-        le-leb _ _ (fits .shortClaim),
-        readProblem,
-        readTheory,
-        derivation-grounds P T derivation g,
-        le-leb _ _ long,
-        agrees,
-      )
-
-module _ (problem theory derivation claim : Bytes) (output work : List ℕ) where
-  -- Demand 3.
-  pub demand-three : checkResult problem theory derivation claim output work .answer .number ≡ 0 → Equivalent problem theory claim
-  demand-three e =
-      let (G, is, a) = check-answered problem theory derivation output work claim e in
-      rw (same-true claim (groundText G) (a .agrees)) (judges-equivalent problem theory derivation G (a .judges))
-
-  -- With a valid problem and theory.
   module _ (P : Problem) (T : List Formula) (readProblem : problemOf problem ≡ done P) (readTheory : theoryOf P theory ≡ done T) where
-    -- Demand 3 after UNSAT: the one formula is `false`, and no structure that extends the input structure satisfies the theory.
-    pub demand-three-unsat : (g : Grounds P T derivation) (n used : ℕ) → g .last ≡ ended n used
-        → (finalFormulas g ≡ truth false ∷ []) × ((S : Structure) → Extends P S → satisfies S T ≡ false)
-    demand-three-unsat = final-unsat problem theory derivation P T readProblem readTheory
-
-    -- No final formula mentions an input predicate.
-    pub demand-three-outputs : (g : Grounds P T derivation) → every (λ f. mentionsOnly (λ p. not (isInput P p)) f) (finalFormulas g) ≡ true
-    demand-three-outputs = final-plain problem theory derivation P T readProblem readTheory
-
-    -- Texts within their sizes and working memory long enough; the output is long enough where it is as long as the final formulas' text.
     module _ (fits : Fits problem theory derivation claim work) where
-      -- Demand 2, with what is answered and left.
-      pub demand-two-result : (g : Grounds P T derivation) → claim ≡ finalText g → length (finalText g) ≤ length output
-          → checkResult problem theory derivation claim output work ≡ accepts g output work
-      unfolding checked
-      demand-two-result g e long =
-          rw (grounds-answered true problem theory derivation claim output P T readProblem readTheory work fits g (rw e (same-refl (finalText g))) long, ← listed-count g)
+      -- Demand 2: these are accepted exactly if a derivation grounds the theory, the claim is its final formulas' text, and that has room in the output;
+      pub check-two : (r .number ≡ 0) ↔ ((g : Grounds P T derivation) × (claim ≡ finalText g) × (length (finalText g) ≤ length output))
+      check-two = promised-exactly promise (demand-two problem theory derivation claim output work P T readProblem readTheory fits)
 
+      -- then the answer, the output and working memory are what that derivation asks for.
+      pub check-two-result : (g : Grounds P T derivation) → claim ≡ finalText g → length (finalText g) ≤ length output → Promise (accepts g output work) r new left
+      check-two-result g e long = promised-as promise (demand-two-result problem theory derivation claim output work P T readProblem readTheory fits g e long)
+
+    -- Demand 3: what is accepted is the text of the derivation's own final formulas, and they hold where the theory does.
+    pub check-three : r .number ≡ 0
+        → (g : Grounds P T derivation) × (claim ≡ finalText g) × ((S : Structure) → Extends P S → satisfies S T ≡ satisfies S (finalFormulas g))
+    check-three e =
+        let (g, is, long, result) = check-grounds problem theory derivation claim output work P T readProblem readTheory (sym (promised-number promise) ∙ e) in
+        (g, is, demand-three (problem-text problem P .0 readProblem .0) (theory-text P theory T .0 readTheory .0) g)
+
+    -- If the derivation ends in UNSAT, the claim is `false` alone, and no structure that extends the input structure satisfies the theory.
+    pub check-three-unsat : r .number ≡ 0 → (D : Derivation) → writtenOf derivation ≡ done D → endsInUnsat (D .lines) ≡ true
+        → (claim ≡ bytes "false\n") × ((S : Structure) → Extends P S → satisfies S T ≡ false)
+    check-three-unsat e =
+        let (g, is, same) = check-three e in
+        final-refuted (problem-text problem P .0 readProblem .0) (theory-text P theory T .0 readTheory .0) g (λ text. text) is
+
+-- THE JOB REPLAY, of every outcome that its promise allows: the same, with the output for the claim.
+
+module _ (problem theory derivation : Bytes) (output work : List ℕ) {r : Answer} {new left : List ℕ}
+    (promise : Promise (replayResult problem theory derivation output work) r new left) where
+  -- Demand 1.
+  pub replayed-one : (r .number ≡ 0 → ⊥) → Refused 18 output r new
+  replayed-one = promised-refused (replayed-refuses problem theory derivation output work) output work promise
+
+  pub replayed-valid : r .number ≡ 0
+      → Fits problem theory derivation [] work × ((P : Problem) × (T : List Formula) × (problemOf problem ≡ done P) × (theoryOf P theory ≡ done T))
+  replayed-valid e = replay-reads problem theory derivation output work (sym (promised-number promise) ∙ e)
+
+  module _ (P : Problem) (T : List Formula) (readProblem : problemOf problem ≡ done P) (readTheory : theoryOf P theory ≡ done T) where
+    module _ (fits : Fits problem theory derivation [] work) where
       -- Demand 2.
-      pub demand-two : (checkResult problem theory derivation claim output work .answer .number ≡ 0)
-          ↔ ((g : Grounds P T derivation) × (claim ≡ finalText g) × (length (finalText g) ≤ length output))
-      demand-two = (there, λ (g, e, long). ap (λ (r : Result). r .answer .number) (demand-two-result g e long))
-        where
-          there : checkResult problem theory derivation claim output work .answer .number ≡ 0
-              → (g : Grounds P T derivation) × (claim ≡ finalText g) × (length (finalText g) ≤ length output)
-          there e =
-              let (G, is, a) = check-answered problem theory derivation output work claim e in
-              let (g, agrees, long) = answered-grounds true problem theory derivation claim output P T readProblem readTheory G a in
-              (g, same-true claim (finalText g) agrees, long)
+      pub replayed-two : (r .number ≡ 0) ↔ ((g : Grounds P T derivation) × (length (finalText g) ≤ length output))
+      replayed-two = promised-exactly promise (replay-two problem theory derivation output work P T readProblem readTheory fits)
 
--- The job replay: the same without a claim.
-module _ (problem theory derivation : Bytes) (output work : List ℕ) where
-  pub replay-three : replayResult problem theory derivation output work .answer .number ≡ 0
-      → (G : Ground) × Equivalent problem theory (groundText G) × (replayResult problem theory derivation output work .output ≡ groundText G ++ drop (length (groundText G)) output)
-  replay-three e =
-      let (G, is, a) = replay-answered problem theory derivation output work e in
-      (G, judges-equivalent problem theory derivation G (a .judges), rw is)
+      pub replayed-two-result : (g : Grounds P T derivation) → length (finalText g) ≤ length output → Promise (accepts g output work) r new left
+      replayed-two-result g long = promised-as promise (replay-two-result problem theory derivation output work P T readProblem readTheory fits g long)
 
-  module _ (P : Problem) (T : List Formula) (readProblem : problemOf problem ≡ done P) (readTheory : theoryOf P theory ≡ done T) (fits : Fits problem theory derivation [] work) where
-    pub replay-two-result : (g : Grounds P T derivation) → length (finalText g) ≤ length output → replayResult problem theory derivation output work ≡ accepts g output work
-    unfolding replayed textSize
-    replay-two-result g long = rw (grounds-answered false problem theory derivation [] output P T readProblem readTheory work fits g refl long, ← listed-count g)
+    -- Demand 3.
+    pub replayed-three : r .number ≡ 0
+        → (g : Grounds P T derivation) × (new ≡ finalText g ++ drop (length (finalText g)) output)
+        × ((S : Structure) → Extends P S → satisfies S T ≡ satisfies S (finalFormulas g))
+    replayed-three e =
+        let (g, long, result) = replay-grounds problem theory derivation output work P T readProblem readTheory (sym (promised-number promise) ∙ e) in
+        (g, promised-as promise result .written, demand-three (problem-text problem P .0 readProblem .0) (theory-text P theory T .0 readTheory .0) g)
 
-    pub replay-two : (replayResult problem theory derivation output work .answer .number ≡ 0) ↔ ((g : Grounds P T derivation) × (length (finalText g) ≤ length output))
-    replay-two = (there, λ (g, long). ap (λ (r : Result). r .answer .number) (replay-two-result g long))
-      where
-        there : replayResult problem theory derivation output work .answer .number ≡ 0 → (g : Grounds P T derivation) × (length (finalText g) ≤ length output)
-        there e =
-            let (G, is, a) = replay-answered problem theory derivation output work e in
-            let (g, agrees, long) = answered-grounds false problem theory derivation [] output P T readProblem readTheory G a in
-            (g, long)
+    pub replayed-three-unsat : r .number ≡ 0 → (D : Derivation) → writtenOf derivation ≡ done D → endsInUnsat (D .lines) ≡ true
+        → (new ≡ bytes "false\n" ++ drop 6 output) × ((S : Structure) → Extends P S → satisfies S T ≡ false)
+    replayed-three-unsat e =
+        let (g, is, same) = replayed-three e in
+        final-refuted (problem-text problem P .0 readProblem .0) (theory-text P theory T .0 readTheory .0) g (λ text. text ++ drop (length text) output) is
 
-read-false : (P : Problem) → theoryOf P (bytes "false\n") ≡ done (truth false ∷ [])
-unfolding textOf size theorySize formulaCount
-read-false P = read-ground P (truth false ∷ []) (falsity-plain P, tt) (falsity-well P, tt) refl
+-- What stood in working memory before never shows in an answer: two memories, of which both are long enough or neither is.
 
--- What is equivalent to `false` alone holds in no structure that extends the input structure.
-pub false-nowhere : (problem theory : Bytes) → Equivalent problem theory (bytes "false\n") → (P : Problem) (T : List Formula) → problemOf problem ≡ done P
-    → theoryOf P theory ≡ done T → (S : Structure) → Extends P S → satisfies S T ≡ false
-unfolding holds
-false-nowhere problem theory e P T readProblem readTheory S extends =
-    let p : e .P ≡ P = cc (e .readProblem, readProblem) in
-    let t : e .T ≡ T = cc (e .readTheory, readTheory, p) in
-    let f : e .G ≡ truth false ∷ [] = cc (e .readGround, read-false (e .P)) in
-    ap (satisfies S) (sym t) ∙ e .agree S (rw p extends) ∙ ap (satisfies S) f
+module _ (problem theory derivation : Bytes) (output work other : List ℕ) (alike : (workSize ≤ length work) ↔ (workSize ≤ length other))
+    {r s : Answer} {new written left rest : List ℕ} where
+  pub check-unseen : (claim : Bytes) → Promise (checkResult problem theory derivation claim output work) r new left
+      → Promise (checkResult problem theory derivation claim output other) s written rest → (r ≡ s) × (new ≡ written)
+  unfolding checked
+  check-unseen claim = promised-unseen true problem theory derivation claim output work other alike
+
+  pub replay-unseen : Promise (replayResult problem theory derivation output work) r new left
+      → Promise (replayResult problem theory derivation output other) s written rest → (r ≡ s) × (new ≡ written)
+  unfolding replayed textSize
+  replay-unseen = promised-unseen false problem theory derivation [] output work other alike
+
+-- ANY TWO OUTCOMES ARE EQUAL: of check and of replay.
+
+pub promise-once : {result : Result} {r s : Answer} {output written work left : List ℕ} → Promise result r output work → Promise result s written left
+    → (r ≡ s) × (output ≡ written) × (work ≡ left)
+promise-once p q = (p .is ∙ sym (q .is), p .written ∙ sym (q .written), p .left ∙ sym (q .left))

@@ -2,12 +2,13 @@
 -- Assumes nothing.
 use Prim.Native.Nat.{ℕ, suc, _+_, _*_, _≤_, _<_}
 use native.Mathlib.Omega.{arith}
-use mathlib.Core.Path.{_≡_, refl, ap, ap₂}
+use mathlib.Core.Path.{_≡_, refl, sym, ap, ap₂, _∙_}
 use mathlib.Core.List.{List, [], _∷_, _++_}
-use mathlib.Core.Bool.{true, false, _&&_}
+use mathlib.Core.Bool.{true, false, _&&_, false≢true}
 use lib.ListN.{length, length-append}
 use borrow.Author.Tests.{leb-true, le-leb}
 use Rattle.grammar.specs.Sizes.{textSize, levelCount, variableCount, guardQuantifierCount, formulaCount, theorySize}
+use Rattle.grammar.specs.Bytes.{bytes}
 use Rattle.grammar.specs.Outcome.{done}
 use Rattle.grammar.specs.Problem.{Problem}
 use Rattle.grammar.specs.Derivation.{RuleLine}
@@ -31,6 +32,7 @@ use Rattle.demands.specs.Theory.{formulasOf, numbered, State, live, ende
 use Rattle.demands.specs.Steps.{Step, rewriting, removing, splitting, ending, Steps, stop, go}
 use Rattle.demands.specs.Ground.{areClauses, isGround}
 use Rattle.demands.proofs.Theory.{EachPart}
+use Rattle.demands.proofs.Steps.{hasEnded}
 use Rattle.demands.proofs.Soundness.{Live, steps-every}
 use Rattle.demands.proofs.TheoryText.{theoryOf-exactly}
 
@@ -83,7 +85,7 @@ module _ (P : Problem) where
     pub unguarded : guardQuantifiers f ≡ 0
     pub short : suc (length (textOf f)) ≤ 16 * size f
 
-  pub falsity-plain : Plain (truth false)
+  falsity-plain : Plain (truth false)
   unfolding spelled hasForm variables guardQuantifiers textOf size
   falsity-plain = record { wellSpelled = refl; normal = refl; unbound = refl; unguarded = refl; short = omega arith }
 
@@ -139,3 +141,19 @@ module _ (P : Problem) where
 
   pub read-ground : (fs : List Formula) → Each Plain fs → Each Well fs → sizesFit fs ≡ true → theoryOf P (theoryText fs) ≡ done fs
   read-ground fs p w e = theoryOf-exactly P (theoryText fs) fs .1 (record { formulas = plain-valid fs p w; limited = plain-limits fs p e }, refl)
+
+  -- After UNSAT.
+
+  pub read-false : theoryOf P (bytes "false\n") ≡ done (truth false ∷ [])
+  unfolding textOf size theorySize formulaCount
+  read-false = read-ground (truth false ∷ []) (falsity-plain, tt) (falsity-well, tt) refl
+
+  -- `false` alone is no ground clause, so it stands after UNSAT only
+  pub ground-ended : (s : State) → isGround P s ≡ true → formulasOf (liveTheory s) ≡ truth false ∷ [] → hasEnded s ≡ true
+  unfolding isClause
+  ground-ended (live t used) e f = sym (ap (areClauses P) f) ∙ e
+  ground-ended (ended n used) e f = refl
+
+  pub ended-false : (s : State) → hasEnded s ≡ true → formulasOf (liveTheory s) ≡ truth false ∷ []
+  ended-false (live t used) e = absurd (false≢true e)
+  ended-false (ended n used) e = refl

@@ -6,6 +6,7 @@ pub mod Cases
 pub mod TheoryText
 pub mod Refusals
 pub mod Ground
+pub mod Final
 pub mod Accepted
-pub mod Demands
 pub mod Promises
+pub mod Demands

@@ -1,4 +1,4 @@
--- What acceptance means, and what it promises: demands 2 and 3 as a logician reads them.
+-- What acceptance means: a derivation that grounds a theory, its final formulas, and what a job then answers and leaves.
 use Prim.Native.Nat.{ℕ, _≤_}
 use mathlib.Core.Path.{_≡_}
 use mathlib.Core.List.{List, _++_}
@@ -6,13 +6,11 @@ use mathlib.Core.Bool.{true}
 use lib.ListN.{length, drop}
 use Rattle.grammar.specs.Sizes.{textSize, workSize}
 use Rattle.grammar.specs.Bytes.{Bytes}
-use Rattle.grammar.specs.Outcome.{done}
-use Rattle.grammar.specs.Problem.{Problem, problemOf}
+use Rattle.grammar.specs.Problem.{Problem}
 use Rattle.grammar.specs.Derivation.{Derivation, derivationFits, derivationText}
 use Rattle.logic.specs.Formula.{Formula}
-use Rattle.logic.specs.Meaning.{Structure, Extends, satisfies}
 use Rattle.demands.specs.Theory.{State, formulasOf, namesOf, liveTheory, initial}
-use Rattle.demands.specs.TheoryText.{theoryOf, theoryText}
+use Rattle.demands.specs.TheoryText.{theoryText}
 use Rattle.demands.specs.Steps.{Steps}
 use Rattle.demands.specs.Ground.{isGround}
 use Rattle.demands.specs.Answer.{Result, workAfter}
@@ -50,14 +48,3 @@ pub record Fits (problem theory derivation claim : Bytes) (work : List ℕ) : Ty
   pub shortDerivation : length derivation ≤ textSize
   pub shortClaim : length claim ≤ textSize
   pub longWork : workSize ≤ length work
-
--- three texts are read as a problem, a theory and a ground theory, and in every structure that extends the input structure the one holds exactly
--- when the other does
-pub record Equivalent (problem theory ground : Bytes) : Type 0 where
-  pub P : Problem
-  pub T : List Formula
-  pub G : List Formula
-  pub readProblem : problemOf problem ≡ done P
-  pub readTheory : theoryOf P theory ≡ done T
-  pub readGround : theoryOf P ground ≡ done G
-  pub agree : (S : Structure) → Extends P S → satisfies S T ≡ satisfies S G
