@@ -1,8 +1,8 @@
 -- What a derivation that grounds a valid theory of a valid problem comes to: its final formulas are well formed and plain, every line kept the
 -- meaning, and UNSAT stands at the end of the lines exactly if `false` alone is left.
 -- Assumes nothing.
-use native.Mathlib.Omega.{arith}
 use Prim.Native.Nat.{_≤_}
+use native.Mathlib.Omega.{arith}
 use mathlib.Core.Path.{_≡_, refl, sym, ap, ap₂, _∙_}
 use mathlib.Core.Logic.{_↔_}
 use mathlib.Core.List.{List, [], _∷_}

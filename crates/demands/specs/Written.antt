@@ -12,7 +12,7 @@ use Rattle.demands.specs.Replay.{derivationFrom}
 abbrev pub noted : List RuleLine → RuleLine → Outcome ℕ (List RuleLine)
 noted ls l = done (ls ++ (l ∷ []))
 
--- the grounder's name, on the second line
+-- the grounder's name, on the second line, which the replay reads and forgets
 abbrev pub grounderOf : Bytes → Judged Bytes
 grounderOf s = onLine 3 2 (mapped (λ p. p .0) (reading._>>_ readVersion readGrounder s))
 
