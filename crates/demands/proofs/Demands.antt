@@ -7,6 +7,7 @@ use mathlib.Core.Logic.{_↔_}
 use mathlib.Core.List.{List, [], _++_}
 use mathlib.Core.Bool.{true, false, not}
 use lib.ListN.{length, drop}
+use denote.Ref.{now}
 use Rattle.grammar.specs.Sizes.{textSize, workSize}
 use Rattle.grammar.specs.Bytes.{Bytes, bytes, every}
 use Rattle.grammar.specs.Outcome.{done}
@@ -14,7 +15,9 @@ use Rattle.grammar.specs.Problem.{Problem, problemOf, isInput}
 use Rattle.grammar.specs.ProblemText.{problemText}
 use Rattle.grammar.specs.Valid.{Valid}
 use Rattle.grammar.specs.Derivation.{Derivation, derivationFits, derivationText, endsInUnsat}
+use Rattle.grammar.specs.HandedBack.{Lent, block, offset, HandedBack}
 use Rattle.grammar.proofs.ProblemRead.{problemOf-exactly}
+use Rattle.grammar.proofs.HandedBack.{handedBack-once}
 use Rattle.logic.specs.Formula.{Formula, depth}
 use Rattle.logic.specs.Text.{textOf, spelled}
 use Rattle.logic.specs.Reading.{readFormula}
@@ -170,8 +173,13 @@ module _ (problem theory derivation : Bytes) (output work other : List ℕ) (ali
   unfolding replayed textSize
   replay-unseen = promised-unseen false problem theory derivation [] output work other alike
 
--- ANY TWO OUTCOMES ARE EQUAL: of check and of replay.
+-- ANY TWO OUTCOMES ARE EQUAL: of check and of replay, and of the refused line.
 
 pub promise-once : {result : Result} {r s : Answer} {output written work left : List ℕ} → Promise result r output work → Promise result s written left
     → (r ≡ s) × (output ≡ written) × (work ≡ left)
 promise-once p q = (p .is ∙ sym (q .is), p .written ∙ sym (q .written), p .left ∙ sym (q .left))
+
+-- The refused line is one part of the lent text: its block, its place in it, its bytes.
+pub refused-line-once : {text part other : Lent} {line : ℕ} → HandedBack text line part → HandedBack text line other
+    → (block part ≡ block other) × (offset part ≡ offset other) × (now part ≡ now other)
+refused-line-once = handedBack-once
