@@ -3,7 +3,6 @@
 use text::byte::peek;
 use text::cell::set_byte;
 use text::number::digits_at;
-use text::number::write_number;
 ghost use Prim.Native.Nat.{_≤_, _<_};
 
 // A place of the file, and one of the memory that the text is written to.
@@ -33,11 +32,27 @@ fn put_byte(texts: &mut [u8], to: usize, limit: usize, b: u8) -> usize {
     to
 }
 
-fn put_number(texts: &mut [u8], to: usize, n: u32) -> usize {
-    if to < texts.len() {
-        return write_number(n, texts, to);
+// The digit of a number at a unit, a power of ten; none before the first.
+fn put_digit(texts: &mut [u8], to: usize, limit: usize, n: u32, unit: u32) -> usize
+    requires { ⌜ 0 < unit ⌝ }
+{
+    if n / unit > 0 {
+        return put_byte(texts, to, limit, b'0' + (n / unit % 10) as u8);
+    }
+    if unit == 1 {
+        return put_byte(texts, to, limit, b'0');
     }
     to
+}
+
+fn put_number(texts: &mut [u8], to: usize, limit: usize, n: u32) -> usize {
+    let mut unit: u32 = 1000000000;
+    let mut place = to;
+    while unit > 0 {
+        place = put_digit(texts, place, limit, n, unit);
+        unit /= 10;
+    }
+    place
 }
 
 fn put_part(
@@ -78,11 +93,11 @@ fn put_parts(
 // The numbers from the first to the last, with commas between them.
 fn put_numbers(first: u32, last: u32, texts: &mut [u8], to: usize, limit: usize) -> usize {
     let mut n = first;
-    let mut place = put_number(texts, to, n);
+    let mut place = put_number(texts, to, limit, n);
     while n < last {
         n += 1;
         place = put_byte(texts, place, limit, b',');
-        place = put_number(texts, place, n);
+        place = put_number(texts, place, limit, n);
     }
     place
 }

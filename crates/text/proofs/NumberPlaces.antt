@@ -1,7 +1,7 @@
 -- Numbers at a place of a text: a value capped at each digit is the value capped at the end, digits are passed one by one, and what
--- `readNumber` makes of them. The written number: a digit behind the others.
+-- `readNumber` makes of them.
 -- Assumes nothing.
-use Prim.Native.Nat.{ℕ, zero, suc, _+_, _*_, _-_, _/_, _%_, _≤_, _<_, min, max}
+use Prim.Native.Nat.{ℕ, zero, suc, _+_, _*_, _-_, _≤_, _<_, min, max}
 use native.Mathlib.Nat.{min-eq-left, min-eq-right, add-zero}
 use native.Mathlib.Decide.{decLe}
 use native.Mathlib.Omega.{arith}
@@ -9,15 +9,13 @@ use mathlib.Core.Path.{_≡_, refl, sym, ap, _∙_}
 use mathlib.Core.List.{[], _∷_}
 use mathlib.Core.Bool.{Bool, true, false, not, and-true, false≢true}
 use lib.Dec.{eqb}
-use lib.ListN.{length, getD, drop, set, length-append}
-use lib.Seq.{sets, drop-drop}
+use lib.ListN.{length, getD, drop}
+use lib.Seq.{drop-drop}
 use Rattle.grammar.specs.Bytes as bytes
 use Rattle.grammar.specs.Bytes.{Bytes, next, span, every, isDigit}
-use Rattle.grammar.specs.Numbers.{valueAfter, value, noLeadingZero, isNumber, decimal}
+use Rattle.grammar.specs.Numbers.{valueAfter, value, noLeadingZero, isNumber}
 use Rattle.grammar.specs.Outcome.{done, refused}
 use Rattle.grammar.specs.Reading.{token, readNumber}
-use Rattle.grammar.proofs.Laws.{sets-append}
-use Rattle.grammar.proofs.Numbers.{decimal-one, decimal-more, decimal-induction}
 use Rattle.grammar.proofs.Reading.{span-split}
 use Rattle.text.specs.memory.Numbers.{beyond, digitsAt, numberAt, numberEnd, numbersAt, DigitsTold, NumberFound, ToldNumber}
 use Rattle.text.specs.declared.number.Digits.{Digits}
@@ -177,23 +175,3 @@ pub numbersAt-more : (text : Bytes) (at many : ℕ) → 0 < many → numbersAt t
 unfolding numbersAt
 numbersAt-more text at zero h = absurd (omega arith)
 numbersAt-more text at (suc many) h = let e : suc many - 1 ≡ many = omega arith in rw e
-
--- The text of a number, written.
-
-pub length-decimal : (n : ℕ) → length (decimal n) ≤ n + 1
-length-decimal = decimal-induction (λ n ds. length ds ≤ n + 1) (λ n small. omega arith) λ n ds large ih. rw (length-append ds) (omega arith)
-
-module _ (n : ℕ) (small : n < 10) where
-  pub length-one : (at : ℕ) → at + 1 ≡ at + length (decimal n)
-  length-one at = rw (decimal-one n small)
-
-  pub write-one : (out : Bytes) (at : ℕ) → set out at (48 + n) ≡ sets out at (decimal n)
-  write-one out at = rw (decimal-one n small)
-
-module _ (n : ℕ) (large : 10 ≤ n) where
-  pub length-more : (at : ℕ) → at + length (decimal (n / 10)) + 1 ≡ at + length (decimal n)
-  length-more at = rw (decimal-more n large, length-append (decimal (n / 10))) (omega arith)
-
-  pub write-more : (out : Bytes) (at : ℕ) {front new : Bytes} {last : ℕ} → front ≡ sets out at (decimal (n / 10)) → last ≡ at + length (decimal (n / 10))
-      → new ≡ set front last (48 + n % 10) → new ≡ sets out at (decimal n)
-  write-more out at {front} {new} {last} e f g = g ∙ rw (e, f, decimal-more n large, sets-append out at (decimal (n / 10)) ((48 + n % 10) ∷ []))

@@ -1,14 +1,12 @@
 // Numbers: read at a place, of any number of digits, and written.
 use crate::byte::is_digit;
 use crate::byte::peek;
-use crate::cell::set_byte;
 ghost use mathlib.Core.Path.{_≡_};
 ghost use mathlib.Core.Bool.{true};
-ghost use Prim.Native.Nat.{_+_, _-_, _*_, _≤_, _<_, _^_, min};
+ghost use Prim.Native.Nat.{_+_, _-_, _*_, _≤_, _<_, min};
 ghost use lib.ListN.{length};
-ghost use lib.Seq.{sets};
 ghost use Rattle.grammar.specs.Bytes.{isDigit};
-ghost use Rattle.grammar.specs.Numbers.{isNumber, decimal};
+ghost use Rattle.grammar.specs.Numbers.{isNumber};
 ghost use Rattle.text.specs.memory.Numbers.{beyond, digitsAt, numberEnd, DigitsTold, ToldNumber};
 
 // Larger than every number that is asked for: numbers from here on are not told apart.
@@ -82,18 +80,4 @@ pub fn number_at(text: &[u8], at: usize) -> Number
         return Number::Value { next, value };
     }
     Number::Beyond { next }
-}
-
-// The digits of a number, from a place on; the place after them.
-pub fn write_number(n: u32, out: &mut [u8], at: usize) -> usize
-    requires { ⌜ at < 2 ^ 63 ⌝ }
-    ensures { λ r. ⌜ (now (out .exit) ≡ sets (now (out .entry)) at (decimal n)) × (r ≡ at + length (decimal n)) ⌝ }
-{
-    if n < 10 {
-        set_byte(out, at, b'0' + n as u8);
-        return at + 1;
-    }
-    let last = write_number(n / 10, out, at);
-    set_byte(out, last, b'0' + (n % 10) as u8);
-    last + 1
 }
