@@ -24,9 +24,9 @@ last-number-requires c κs =
 
 returns-2 : tie.Need-returns-2
 returns-2 c =
-    let start = c .before .before .before .before .before in
-    let a = start .args in
-    let w = word-found (a .text .now) (a .at) (bytes "domain=") (start .pre) (sym (c .before .before .begins-at .ensures) ∙ not-false _ (c .before .if1 .left)) in
+    let compared = c .before .before in let begun = compared .before .before .before in
+    let a = begun .args in
+    let w = word-found (a .text .now) (a .at) (bytes "domain=") (begun .pre) (sym (compared .begins-at .ensures) ∙ not-false _ (c .before .if1 .left)) in
     domain-behind (a .text .now) (a .at) w (c .last-number .result) (c .last-number .ensures)
 
 pub domain-at-spec : {M : Type 1} → statement M

@@ -17,16 +17,16 @@ input-line-requires c κs =
 
 returns : tie.Need-returns
 returns c =
-    let entry = c .before .before .before .before .before in
+    let compared = c .before .before in let entry = compared .before .before .before in
     let a = entry .args in
-    let w = word-found (a .text .now) (a .at) (bytes "input=") (entry .pre .0) (sym (c .before .before .begins-at .ensures) ∙ c .before .if1 .taken) in
+    let w = word-found (a .text .now) (a .at) (bytes "input=") (entry .pre .0) (sym (compared .begins-at .ensures) ∙ c .before .if1 .taken) in
     declaring-input (a .text .now) (a .at) (a .progress) (c .input-line .result) w (c .input-line .ensures)
 
 returns-2 : tie.Need-returns-2
 returns-2 c =
-    let a = c .before .before .before .before .before .args in
+    let compared = c .before .before in let a = compared .before .before .before .args in
     declaring-output (a .text .now) (a .at) (a .progress) (c .output-line .result)
-    (sym (c .before .before .begins-at .ensures) ∙ c .before .if1 .left) (c .output-line .ensures)
+    (sym (compared .begins-at .ensures) ∙ c .before .if1 .left) (c .output-line .ensures)
 
 pub declaring-line-spec : {M : Type 1} → statement M
 declaring-line-spec =

@@ -40,19 +40,17 @@ returns-3 c =
 
 returns-4 : tie.Need-returns-4
 returns-4 c =
-    let domain-at = c .before .before .before .domain-at in
-    let a = c .before .before .before .before .before .args in
+    let read = c .before .before .before in let a = read .before .before .args in
     rw (c .failed3 .ensures)
     (domain-beyond (a .text .now) (a .at) (a .progress) (c .before .enum-told .given .0 .0)
-    (subst (ToldLast readDomain (a .text .now) (a .at)) (c .before .enum-told .given .1) (domain-at .ensures)))
+    (subst (ToldLast readDomain (a .text .now) (a .at)) (c .before .enum-told .given .1) (read .domain-at .ensures)))
 
 returns-5 : tie.Need-returns-5
 returns-5 c =
-    let domain-at = c .before .before .before .domain-at in
-    let a = c .before .before .before .before .before .args in
+    let read = c .before .before .before in let a = read .before .before .args in
     rw (c .failed4 .ensures)
     (domain-failed (a .text .now) (a .at) (a .progress)
-    (subst (ToldLast readDomain (a .text .now) (a .at)) (c .before .enum-told2 .given .1) (domain-at .ensures)))
+    (subst (ToldLast readDomain (a .text .now) (a .at)) (c .before .enum-told2 .given .1) (read .domain-at .ensures)))
 
 pub domain-line-spec : {M : Type 1} → statement M
 domain-line-spec =

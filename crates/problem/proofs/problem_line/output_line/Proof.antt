@@ -12,35 +12,29 @@ use Rattle.problem.proofs.ProblemPlaces.{output-missing, output-failed,
 use Rattle.problem.proofs.problem_line.output_line.Statement.{statement}
 use Rattle.problem.proofs.problem_line.output_line.Tie as tie
 
-word : (c : tie.After-table)
-    → let a = c .before .before .before .before .before .args in
-    WordFound (bytes "output=") (a .text .now) (a .at) (a .at + 7)
-word c =
-    let entry = c .before .before .before .before .before in
-    word-found (entry .args .text .now) (entry .args .at) (bytes "output=") (entry .pre .0)
-    (sym (c .before .before .begins-at .ensures) ∙ not-false _ (c .before .if1 .left))
+-- the word is there
+module _ (sought : tie.After-table) where
+  abbrev begun : tie.Start
+  begun = sought .before .before .before .before .before
+
+  word : WordFound (bytes "output=") (begun .args .text .now) (begun .args .at) (begun .args .at + 7)
+  word = word-found (begun .args .text .now) (begun .args .at) (bytes "output=") (begun .pre .0) (sym (sought .before .before .begins-at .ensures) ∙ not-false _ (sought .before .if1 .left))
 
 returns : tie.Need-returns
 returns c =
-    let a = c .before .before .before .before .before .args in
-    rw (c .failed .ensures)
-    (output-missing (a .text .now) (a .at) (a .progress) (sym (c .before .before .begins-at .ensures) ∙ not-true _ (c .before .if1 .taken)))
-
-declared-requires : tie.Need-declared-requires
-declared-requires c κs = omega (arith, word c .within)
+    let compared = c .before .before in let a = compared .before .before .before .args in
+    rw (c .failed .ensures) (output-missing (a .text .now) (a .at) (a .progress) (sym (compared .begins-at .ensures) ∙ not-true _ (c .before .if1 .taken)))
 
 returns-2 : tie.Need-returns-2
 returns-2 c =
-    let d = c .before .before .before in
-    let a = d .before .before .before .before .before .before .args in
+    let read = c .before .before .before in let a = begun (read .before) .args in
     rw (c .failed2 .ensures)
-    (output-failed (a .text .now) (a .at) (a .progress) (word (d .before)) (d .declared .result) (d .declared .ensures) (c .before .if2 .taken))
+    (output-failed (a .text .now) (a .at) (a .progress) (word (read .before)) (read .declared .result) (read .declared .ensures) (c .before .if2 .taken))
 
 returns-3 : tie.Need-returns-3
 returns-3 c =
-    let d = c .before .before .before .before in
-    let a = d .before .before .before .before .before .before .args in
-    output-line (a .text .now) (a .at) (a .progress) (word (d .before)) (d .declared .result) (d .declared .ensures) (c .before .before .if2 .left)
+    let read = c .before .before .before .before in let a = begun (read .before) .args in
+    output-line (a .text .now) (a .at) (a .progress) (word (read .before)) (read .declared .result) (read .declared .ensures) (c .before .before .if2 .left)
 
 pub output-line-spec : {M : Type 1} → statement M
 output-line-spec =
@@ -51,7 +45,7 @@ output-line-spec =
     (λ c κs. search needs)
     returns
     (λ c. search needs)
-    declared-requires
+    (λ c κs. omega (arith, word c .within))
     (λ c κs. search needs)
     returns-2
     (λ c. search needs)

@@ -4,6 +4,7 @@ use borrow.Author.Needs.{needs}
 use native.Mathlib.Omega.{arith}
 use Prim.Native.Nat.{ℕ, _-_}
 use mathlib.Core.Path.{_≡_, refl, subst, _∙_}
+use mathlib.Core.List.{List}
 use lib.ListN.{length}
 use Rattle.grammar.specs.Problem.{problemLine}
 use Rattle.problem.specs.memory.ProblemLines.{partIn, PartFound, ToldPart}
@@ -17,18 +18,29 @@ Inv-loop text rows₀ progress₀ at₀ line₀ rows progress at line = ProblemG
 abbrev μ-loop : tie.MeasureT-loop
 μ-loop text rows₀ progress₀ at₀ line₀ rows progress at line = length text - at
 
--- a line that is not refused
-line-read : (c : tie.After-problem-line-at Inv-loop μ-loop) → c .problem-line-at .result .number ≡ 0
-    → let a = c .before .before .before .before .before .before .before .args in
-    let l = c .before .before .before .loop in
-    let r = c .problem-line-at .result in
-    PartFound (problemLine (partIn (a .text .now) (l .progress) (l .rows))) (a .text .now) (l .at) (c .problem-line-at .last .1 .1 .1 .0) (r .next) (r .progress)
-line-read c e =
-    let a = c .before .before .before .before .before .before .before .args in
-    let l = c .before .before .before .loop in
-    let r = c .problem-line-at .result in
-    subst (λ (n : ℕ). ToldPart (problemLine (partIn (a .text .now) (l .progress) (l .rows))) (a .text .now) (l .at) (c .problem-line-at .last .1 .1 .1 .0) n
-    (r .next) (r .progress)) e (c .problem-line-at .ensures)
+-- a line, read in a turn
+module _ (read : tie.After-problem-line-at Inv-loop μ-loop) where
+  abbrev turn : tie.In-loop Inv-loop μ-loop
+  turn = read .before .before
+
+  abbrev begun : tie.Start Inv-loop μ-loop
+  begun = turn .before .before .before .before .before
+
+  abbrev left : List ℕ
+  left = read .problem-line-at .last .1 .1 .1 .0
+
+  same : length left ≡ length (begun .args .rows .now)
+  same = read .problem-line-at .kept .1 .1 .1 .0 ∙ turn .before .loop .inv .1
+
+  -- a line that is not refused
+  line-read : read .problem-line-at .result .number ≡ 0
+      → let l = turn .before .loop in
+      let r = read .problem-line-at .result in
+      PartFound (problemLine (partIn (begun .args .text .now) (l .progress) (l .rows))) (begun .args .text .now) (l .at) left (r .next) (r .progress)
+  line-read e =
+      let l = turn .before .loop in
+      let r = read .problem-line-at .result in
+      subst (λ (n : ℕ). ToldPart (problemLine (partIn (begun .args .text .now) (l .progress) (l .rows))) (begun .args .text .now) (l .at) left n (r .next) (r .progress)) e (read .problem-line-at .ensures)
 
 loop-holds : tie.Need-loop-holds Inv-loop μ-loop
 loop-holds c =
@@ -37,60 +49,36 @@ loop-holds c =
 
 problem-line-at-requires : tie.Need-problem-line-at-requires Inv-loop μ-loop
 problem-line-at-requires c κs =
-    let start = c .before .before .before .before .before .before in
-    let l = c .before .before .loop in
-    let pre = start .pre in
+    let top = c .before .before in let l = top .loop in
+    let pre = top .before .before .before .before .pre in
     (l .inv .0 .going .within, pre .0, l .inv .0 .standing, omega (arith, l .inv .1, pre .1))
-
-same-length : tie.Need-same-length Inv-loop μ-loop
-same-length c =
-    let read = c .before .before .before .before .before in
-    read .problem-line-at .kept .1 .1 .1 .0 ∙ read .before .before .before .loop .inv .1
 
 returns : tie.Need-returns Inv-loop μ-loop
 returns c =
-    let read = c .before .before .before .before .before in
-    let l = read .before .before .before .loop in
-    let a = read .before .before .before .before .before .before .before .args in
+    let failed = c .before in let read = failed .before .before .before .before in
+    let l = turn read .before .loop in
     let r = read .problem-line-at .result in
-    problem-stopped (a .text .now) (l .progress) (l .rows) (l .at) (l .line) (l .inv .0) (read .before .before .loop-test .taken)
-    (r .number) (r .next) (r .progress) (read .problem-line-at .last .1 .1 .1 .0) (c .before .if1 .taken) (read .problem-line-at .ensures)
-
-add-line : tie.Need-add-line Inv-loop μ-loop
-add-line c =
-    let loop = c .before .before .before .before .before .before .before .before .loop in
-    let start = c .before .before .before .before .before .before .before .before .before .before .before .before in
-    let going = loop .inv .0 in
-    omega (arith, going .lines, going .going .within, start .pre .0)
+    problem-stopped (begun read .args .text .now) (l .progress) (l .rows) (l .at) (l .line) (l .inv .0) (turn read .loop-test .taken)
+    (r .number) (r .next) (r .progress) (left read) (failed .if1 .taken) (read .problem-line-at .ensures)
 
 loop-less : tie.Need-loop-less Inv-loop μ-loop
 loop-less c =
-    let before = c .before .before .before .before .before in
-    let f = line-read (before) (c .before .if1 .left) in
+    let more = c .before in
+    let f = line-read (more .before .before .before .before) (more .if1 .left) in
     omega (arith, f .found .after, f .found .within)
 
 loop-again : tie.Need-loop-again Inv-loop μ-loop
 loop-again c =
-    let read = c .before .before .before .before .before in
-    let l = read .before .before .before .loop in
-    let a = read .before .before .before .before .before .before .before .args in
-    let r = read .problem-line-at .result in (
-      problem-on (a .text .now) (l .progress) (l .rows) (l .at) (l .line) (l .inv .0) (read .before .before .loop-test .taken)
-          (r .next) (r .progress) (read .problem-line-at .last .1 .1 .1 .0) (line-read read (c .before .if1 .left)),
-      read .problem-line-at .kept .1 .1 .1 .0 ∙ l .inv .1,
-    )
-
-same-length-2 : tie.Need-same-length-2 Inv-loop μ-loop
-same-length-2 c =
-    let loop = c .before .before .before .loop in
-    loop .inv .1
+    let more = c .before in let read = more .before .before .before .before in
+    let l = turn read .before .loop in
+    let r = read .problem-line-at .result in
+    (problem-on (begun read .args .text .now) (l .progress) (l .rows) (l .at) (l .line) (l .inv .0) (turn read .loop-test .taken) (r .next) (r .progress) (left read) (line-read read (more .if1 .left)), same read)
 
 returns-2 : tie.Need-returns-2 Inv-loop μ-loop
 returns-2 c =
-    let loop = c .before .before .before .loop in
-    let a = c .before .before .before .before .before .before .before .args in
-    let l = loop in
-    rw (c .ended .ensures) (problem-end (a .text .now) (l .progress) (l .rows) (l .at) (l .line) (l .inv .0) (c .before .before .loop-test .left))
+    let over = c .before .before in let top = over .before in
+    let l = top .loop in
+    rw (c .ended .ensures) (problem-end (top .before .before .before .before .args .text .now) (l .progress) (l .rows) (l .at) (l .line) (l .inv .0) (over .loop-test .left))
 
 pub read-problem-spec : {M : Type 1} → statement M
 read-problem-spec =
@@ -101,11 +89,11 @@ read-problem-spec =
     (λ c κs. search needs)
     loop-holds
     problem-line-at-requires
-    same-length
+    (λ c. let failed = c .before in same (failed .before .before .before .before))
     returns
-    add-line
+    (λ c. omega arith)
     loop-less
     loop-again
     (λ c κs. search needs)
-    same-length-2
+    (λ c. c .before .before .before .loop .inv .1)
     returns-2)

@@ -6,8 +6,8 @@ use Rattle.problem.proofs.problem_line.with_input.Tie as tie
 
 returns : tie.Need-returns
 returns c =
-    let with-rows = c .before .before .before .before .before .with-rows in
-    let table = with-rows in
+    let rest = c .before in let told = rest .before .before .before .before in
+    let table = told .with-rows in
     (rw (table .ensures .0, c .before .tuples .ensures .0), table .ensures .1)
 
 pub with-input-spec : {M : Type 1} → statement M

@@ -9,19 +9,18 @@ use Rattle.problem.proofs.rows.element_at.Tie as tie
 
 returns : tie.Need-returns
 returns c =
-    let next = c .before .before .next in
-    let number-at = c .before .before .before .before .number-at in
-    let a = c .before .before .before .before .before .before .args in
+    let given = c .before .before in let numbered = given .before .before in
+    let next = given .next in
+    let a = numbered .before .before .args in
     element-small (a .domain) (a .text .now) (a .at) (a .row) (next .given .0 .0) (next .given .0 .1 .0)
-    (subst (ToldNumber (a .text .now) (a .at)) (next .given .1) (number-at .ensures)) (c .extended .result) (c .extended .ensures)
+    (subst (ToldNumber (a .text .now) (a .at)) (next .given .1) (numbered .number-at .ensures)) (c .extended .result) (c .extended .ensures)
 
 returns-2 : tie.Need-returns-2
 returns-2 c =
-    let number-at = c .before .before .before .number-at in
-    let start = c .before .before .before .before .before in
-    let a = start .args in
-    element-large (a .domain) (a .text .now) (a .at) (a .row) (c .before .next2 .given .0 .0) (start .pre .1)
-    (subst (ToldNumber (a .text .now) (a .at)) (c .before .next2 .given .1) (number-at .ensures))
+    let numbered = c .before .before .before in let begun = numbered .before .before in
+    let a = begun .args in
+    element-large (a .domain) (a .text .now) (a .at) (a .row) (c .before .next2 .given .0 .0) (begun .pre .1)
+    (subst (ToldNumber (a .text .now) (a .at)) (c .before .next2 .given .1) (numbered .number-at .ensures))
 
 returns-3 : tie.Need-returns-3
 returns-3 c =

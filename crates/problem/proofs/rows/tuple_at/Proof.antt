@@ -2,10 +2,11 @@
 -- Assumes nothing.
 use borrow.Author.Needs.{needs}
 use native.Mathlib.Omega.{arith}
-use Prim.Native.Nat.{_-_}
-use mathlib.Core.Path.{sym, subst, _∙_}
+use Prim.Native.Nat.{_-_, _<_}
+use mathlib.Core.Path.{_≡_, sym, subst, _∙_}
 use lib.ListN.{length}
 use Rattle.text.proofs.FoundBytes.{byte-inside}
+use Rattle.problem.specs.declared.rows.TupleRead.{TupleRead}
 use Rattle.problem.specs.memory.Rows.{ToldElement}
 use Rattle.problem.proofs.RowPlaces.{TupleGoing, tuple-first, tuple-bounded, tuple-refused, tuple-last, tuple-on}
 use Rattle.problem.proofs.rows.tuple_at.Statement.{statement}
@@ -16,6 +17,25 @@ Inv-loop text at domain row₀ i₀ row i = TupleGoing domain text at row i
 
 abbrev μ-loop : tie.MeasureT-loop
 μ-loop text at domain row₀ i₀ row i = length text - i
+
+-- an element, read in a turn
+module _ (read : tie.After-element-at Inv-loop μ-loop) where
+  abbrev turn : tie.At-loop Inv-loop μ-loop
+  turn = read .before
+
+  abbrev begun : tie.Start Inv-loop μ-loop
+  begun = turn .before .before
+
+  told : (r : TupleRead) → read .element-at .result ≡ r → ToldElement (begun .args .domain) (turn .loop .row) (begun .args .text .now) (turn .loop .i) r
+  told r e = subst (ToldElement (begun .args .domain) (turn .loop .row) (begun .args .text .now) (turn .loop .i)) e (read .element-at .ensures)
+
+-- a point behind it
+module _ (c : tie.Else1 Inv-loop μ-loop) where
+  abbrev read : tie.After-element-at Inv-loop μ-loop
+  read = c .before .before .before .before .before
+
+  inside : c .before .before .before .next .given .0 .0 < length (begun read .args .text .now)
+  inside = byte-inside (begun read .args .text .now) (c .before .before .before .next .given .0 .0) 46 (omega arith) (sym (c .before .peek .ensures) ∙ c .if1 .left)
 
 loop-holds : tie.Need-loop-holds Inv-loop μ-loop
 loop-holds c =
@@ -31,49 +51,23 @@ element-at-requires c κs =
 
 returns : tie.Need-returns Inv-loop μ-loop
 returns c =
-    let loop = c .before .before .before .loop in
-    let a = c .before .before .before .before .before .args in
-    let l = loop in
-    tuple-refused (a .domain) (a .text .now) (a .at) (l .row) (l .i) (l .inv)
-    (subst (ToldElement (a .domain) (l .row) (a .text .now) (l .i)) (c .enum-told .given .1) (c .before .before .element-at .ensures))
+    let read = c .before .before in let a = begun read .args in
+    let l = turn read .loop in
+    tuple-refused (a .domain) (a .text .now) (a .at) (l .row) (l .i) (l .inv) (told read _ (c .enum-told .given .1))
 
 returns-2 : tie.Need-returns-2 Inv-loop μ-loop
 returns-2 c =
-    let next = c .before .before .before .next in
-    let element-at = c .before .before .before .before .before .element-at in
-    let loop = c .before .before .before .before .before .before .loop in
-    let a = c .before .before .before .before .before .before .before .before .args in
-    let l = loop in
-    tuple-last (a .domain) (a .text .now) (a .at) (l .row) (l .i) (l .inv) (next .given .0 .1 .0) (next .given .0 .0)
-    (subst (ToldElement (a .domain) (l .row) (a .text .now) (l .i)) (next .given .1) (element-at .ensures)) (λ e. c .if1 .taken (c .before .peek .ensures ∙ e))
-
-add-i : tie.Need-add-i Inv-loop μ-loop
-add-i c =
-    let next = c .before .before .before .next in
-    let a = c .before .before .before .before .before .before .before .before .args in
-    let h = byte-inside (a .text .now) (next .given .0 .0) 46 (omega arith) (sym (c .before .peek .ensures) ∙ c .if1 .left) in
-    omega arith
-
-loop-less : tie.Need-loop-less Inv-loop μ-loop
-loop-less c =
-    let next = c .before .before .before .next in
-    let element-at = c .before .before .before .before .before .element-at in
-    let loop = c .before .before .before .before .before .before .loop in
-    let a = c .before .before .before .before .before .before .before .before .args in
-    let l = loop in
-    let h = byte-inside (a .text .now) (next .given .0 .0) 46 (omega arith) (sym (c .before .peek .ensures) ∙ c .if1 .left) in
-    let f = subst (ToldElement (a .domain) (l .row) (a .text .now) (l .i)) (next .given .1) (element-at .ensures) in
-    omega (arith, f .later)
+    let n = c .before .before .before in let read = n .before .before in
+    let a = begun read .args in
+    let l = turn read .loop in
+    tuple-last (a .domain) (a .text .now) (a .at) (l .row) (l .i) (l .inv) (n .next .given .0 .1 .0) (n .next .given .0 .0) (told read _ (n .next .given .1)) (λ e. c .if1 .taken (c .before .peek .ensures ∙ e))
 
 loop-again : tie.Need-loop-again Inv-loop μ-loop
 loop-again c =
-    let next = c .before .before .before .next in
-    let element-at = c .before .before .before .before .before .element-at in
-    let loop = c .before .before .before .before .before .before .loop in
-    let a = c .before .before .before .before .before .before .before .before .args in
-    let l = loop in
-    tuple-on (a .domain) (a .text .now) (a .at) (l .row) (l .i) (l .inv) (next .given .0 .1 .0) (next .given .0 .0)
-    (subst (ToldElement (a .domain) (l .row) (a .text .now) (l .i)) (next .given .1) (element-at .ensures)) (sym (c .before .peek .ensures) ∙ c .if1 .left)
+    let n = c .before .before .before .next .given in
+    let a = begun (read c) .args in
+    let l = turn (read c) .loop in
+    tuple-on (a .domain) (a .text .now) (a .at) (l .row) (l .i) (l .inv) (n .0 .1 .0) (n .0 .0) (told (read c) _ (n .1)) (sym (c .before .peek .ensures) ∙ c .if1 .left)
 
 pub tuple-at-spec : {M : Type 1} → statement M
 tuple-at-spec =
@@ -88,6 +82,6 @@ tuple-at-spec =
     (λ c. search needs)
     (λ c κs. search needs)
     returns-2
-    add-i
-    loop-less
+    (λ c. omega (arith, inside c))
+    (λ c. omega (arith, inside c, told (read c) _ (c .before .before .before .next .given .1) .later))
     loop-again)
