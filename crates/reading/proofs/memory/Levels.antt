@@ -1,12 +1,12 @@
 -- A formula at a place of the theory's text, by the levels left and by how it opens.
 -- Assumes nothing.
-use Prim.Native.Nat.{ℕ, zero, suc, _-_, _≤_}
+use Prim.Native.Nat.{ℕ, zero, suc, _-_, _≤_, _<_}
 use native.Mathlib.Numerals.{sub-one}
 use native.Mathlib.Omega.{arith}
 use mathlib.Core.Path.{_≡_, refl, sym, subst, _∙_}
 use lib.ListN.{length, drop}
 use Rattle.grammar.specs.Bytes.{Bytes}
-use Rattle.grammar.specs.Outcome.{refused}
+use Rattle.grammar.specs.Outcome.{Outcome, refused}
 use Rattle.grammar.specs.Reading.{Reading}
 use Rattle.logic.specs.Formula.{Formula}
 use Rattle.logic.specs.Reading.{readFormula}
@@ -22,6 +22,11 @@ use Rattle.reading.proofs.memory.Openings.{told-opening}
 pub no-level : (levels : ℕ) (s : Bytes) → levels ≡ 0 → readFormula levels s ≡ refused 6
 unfolding readFormula
 no-level levels s e = rw e
+
+-- what is refused behind a sign is refused with it
+pub refused-behind : {o : Outcome ℕ (Formula × Bytes)} {number : ℕ} (text : Bytes) (at : ℕ) → o ≡ refused number
+    → (reader : Reading Formula) (sign : ℕ) → reader (drop sign text) ≡ o → sign < at → reader (drop sign text) ≡ refused number
+refused-behind text at e reader sign same less = same ∙ e
 
 -- one level less for what is in it
 level : (levels : ℕ) → (levels ≡ 0 → ⊥) → (s : Bytes) → readFormula levels s ≡ readKind (readFormula (levels - 1)) s

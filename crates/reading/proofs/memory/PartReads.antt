@@ -192,23 +192,10 @@ some-more (suc more) u e = omega arith
 
 -- by the answer
 module _ (reader : Reading Formula) (s : Setting) (at : ℕ) (old : Memory) (to : ℕ) (new : Memory) (r : Read) (t : Told reader s at old to r new) where
-  pub formula-done : (after extent : ℕ) (facts : Facts) → r ≡ read.Done after extent facts → Found reader s at old to after extent facts new
-  formula-done after extent facts e = subst (λ q. Told reader s at old to q new) e t
-
-  pub formula-malformed : r ≡ read.Malformed → reader (drop at (s .text)) ≡ refused 5
-  formula-malformed e = subst (λ q. Told reader s at old to q new) e t
-
-  pub formula-deep : r ≡ read.Deep → reader (drop at (s .text)) ≡ refused 6
-  formula-deep e = subst (λ q. Told reader s at old to q new) e t
+  pub formula-by : (q : Read) → r ≡ q → Told reader s at old to q new
+  formula-by q e = subst (λ x. Told reader s at old to x new) e t
 
 module _ (reader : Reading (List Formula)) (s : Setting) (at : ℕ) (old : Memory) (to : ℕ) (new : Memory) (r : PartsRead)
     (t : ToldParts reader s at old to r new) where
-  pub parts-done : (after extent count : ℕ) (facts : Facts) → r ≡ parts.Done after extent count facts
-      → PartsFound reader s at old to after extent count facts new
-  parts-done after extent count facts e = subst (λ q. ToldParts reader s at old to q new) e t
-
-  pub parts-malformed : r ≡ parts.Malformed → reader (drop at (s .text)) ≡ refused 5
-  parts-malformed e = subst (λ q. ToldParts reader s at old to q new) e t
-
-  pub parts-deep : r ≡ parts.Deep → reader (drop at (s .text)) ≡ refused 6
-  parts-deep e = subst (λ q. ToldParts reader s at old to q new) e t
+  pub parts-by : (q : PartsRead) → r ≡ q → ToldParts reader s at old to q new
+  parts-by q e = subst (λ x. ToldParts reader s at old to x new) e t

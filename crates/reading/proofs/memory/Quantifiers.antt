@@ -32,7 +32,6 @@ use Rattle.reading.specs.memory.FormulaReads.{Found, ToldBehind}
 use Rattle.reading.specs.memory.PartReads.{readGuarded, GuardedFound, ToldGuarded}
 use Rattle.reading.specs.declared.read.Read.the-variants as read
 use Rattle.reading.specs.declared.read.GuardedRead.{GuardedRead}
-use Rattle.reading.specs.declared.read.GuardedRead.the-variants as guarded
 use Rattle.reading.proofs.memory.PartReads.{words-goes}
 
 -- A guard and a body.
@@ -74,15 +73,8 @@ module _ (s : Setting) (r : Reading Formula) (at : ℕ) (old : Memory) (to : ℕ
 -- by the answer
 module _ (reader : Reading (Formula × Formula)) (s : Setting) (at : ℕ) (old : Memory) (to : ℕ) (new : Memory) (r : GuardedRead)
     (t : ToldGuarded reader s at old to r new) where
-  pub guarded-done : (after extent : ℕ) (guard body : Facts) → r ≡ guarded.Done after extent guard body
-      → GuardedFound reader s at old to after extent guard body new
-  guarded-done after extent guard body e = subst (λ q. ToldGuarded reader s at old to q new) e t
-
-  pub guarded-malformed : r ≡ guarded.Malformed → reader (drop at (s .text)) ≡ refused 5
-  guarded-malformed e = subst (λ q. ToldGuarded reader s at old to q new) e t
-
-  pub guarded-deep : r ≡ guarded.Deep → reader (drop at (s .text)) ≡ refused 6
-  guarded-deep e = subst (λ q. ToldGuarded reader s at old to q new) e t
+  pub guarded-by : (q : GuardedRead) → r ≡ q → ToldGuarded reader s at old to q new
+  guarded-by q e = subst (λ x. ToldGuarded reader s at old to x new) e t
 
 -- quantifiers on a path are no more than the text's bytes
 module _ (reader : Reading (Formula × Formula)) (s : Setting) (at : ℕ) (old : Memory) (to after extent : ℕ) (guard body : Facts) (new : Memory)

@@ -15,71 +15,49 @@ use Rattle.reading.proofs.leaf.read_atom.Statement.{statement}
 use Rattle.reading.proofs.leaf.read_atom.Tie as tie
 
 -- the predicate's name
-name-taken : (c : tie.After-end)
-    → let a = c .before .before .before .before .before .before .args in
-    NameTaken (readName 5) (a .text .now) (a .at) (c .end .given .0 .0)
-name-taken c = word-done (readName 5) _ _ _ (c .before .before .predicate-end .ensures) _ (c .end .given .1)
+module _ (named : tie.After-end) where
+  abbrev begun : tie.Start
+  begun = named .before .before .before .before .before .before
+
+  name-taken : NameTaken (readName 5) (begun .args .text .now) (begun .args .at) (named .end .given .0 .0)
+  name-taken = word-done (readName 5) _ _ _ (named .before .before .predicate-end .ensures) _ (named .end .given .1)
 
 -- the terms that were read
-terms-found : (c : tie.After-next)
-    → let read = c .before .before .before .before in
-    let named = read .before .before .before .before in
-    let a = named .before .before .before .before .before .before .args in
-    let told = c .next .given .0 in
-    let last = read .read-arguments .last .1 .1 .1 .1 in
-    TermsFound (a .text .now) (a .table .domain) (boundIn (a .text .now) (a .scope)) readTermList (named .end .given .0 .0) (memory (a .names .now) (a .work .now)) (a .to + 1) (told .0) (told .1 .0) (told .1 .1 .0) (memory (last .0) (last .1 .0))
-terms-found c = terms-done _ _ _ _ _ _ _ _ _ (c .before .before .before .before .read-arguments .ensures) _ _ _ (c .next .given .1)
+module _ (found : tie.After-next) where
+  abbrev read : tie.After-read-arguments
+  read = found .before .before .before .before
+
+  abbrev named : tie.After-end
+  named = read .before .before .before .before
+
+  terms-found : let a = begun named .args in
+      let told = found .next .given .0 in
+      let last = read .read-arguments .last .1 .1 .1 .1 in
+      TermsFound (a .text .now) (a .table .domain) (boundIn (a .text .now) (a .scope)) readTermList (named .end .given .0 .0) (memory (a .names .now) (a .work .now)) (a .to + 1) (told .0) (told .1 .0) (told .1 .1 .0) (memory (last .0) (last .1 .0))
+  terms-found = terms-done _ _ _ _ _ _ _ _ _ (read .read-arguments .ensures) _ _ _ (found .next .given .1)
 
 -- how far the terms reach, and where the predicate stands in the table
 bounds : (c : tie.After-find)
-    → let read = c .before .before in
-    let named = read .before .before .before .before .before .before .before .before in
-    let a = named .before .before .before .before .before .before .args in
-    let told = read .next .given .0 in
-    (named .end .given .0 .0 + told .1 .0 + (told .1 .0 - 1) ≤ told .0) × (told .0 ≤ length (a .text .now)) × (c .find .result ≤ a .table .count)
+    → let found = c .before .before in
+    let a = begun (named found) .args in
+    let told = found .next .given .0 in
+    (named found .end .given .0 .0 + told .1 .0 + (told .1 .0 - 1) ≤ told .0) × (told .0 ≤ length (a .text .now)) × (c .find .result ≤ a .table .count)
 bounds c =
-    let read = c .before .before in
-    let a = read .before .before .before .before .before .before .before .before .before .before .before .before .before .before .args in
-    let found = terms-found read in
-    (found .after, found .within, rw (c .find .ensures) (position-table (a .problem .now) (a .table) _))
-
-read-arguments-requires : tie.Need-read-arguments-requires
-read-arguments-requires c κs = omega (arith, name-taken (c .before .before .before))
-
-sub-size : tie.Need-sub-size
-sub-size c = omega (arith, name-taken (c .before .before .before .before .before .before .before .before .before))
-
-cast-set-number : tie.Need-cast-set-number
-cast-set-number c = omega (arith, bounds (c .before))
-
-mul-set-number : tie.Need-mul-set-number
-mul-set-number c = omega (arith, bounds (c .before))
-
-add-set-number : tie.Need-add-set-number
-add-set-number c = omega (arith, bounds (c .before))
-
-mul-set-number-2 : tie.Need-mul-set-number-2
-mul-set-number-2 c = omega (arith, bounds (c .before))
-
-add-set-number-2 : tie.Need-add-set-number-2
-add-set-number-2 c = omega (arith, bounds (c .before))
-
-add-t31 : tie.Need-add-t31
-add-t31 c = omega (arith, bounds (c .before .before .before .before))
+    let found = c .before .before in let a = begun (named found) .args in
+    let terms = terms-found found in
+    (terms .after, terms .within, rw (c .find .ensures) (position-table (a .problem .now) (a .table) _))
 
 returns : tie.Need-returns
 returns c =
-    let stored = c .before .before .before in
-    let known = stored .before .before in
-    let read = known .before .before in
+    let stored = c .before .before .before in let known = stored .before .before in
+    let found = known .before .before in
     rw (stored .set-number .ensures, c .atom-facts .ensures, known .find .ensures)
-    (atom-found _ _ _ _ _ (name-taken (read .before .before .before .before .before .before .before .before)) _ _ _ _ _ _ (domain-table _ _) (terms-found read))
+    (atom-found _ _ _ _ _ (name-taken (named found)) _ _ _ _ _ _ (domain-table _ _) (terms-found found))
 
 returns-2 : tie.Need-returns-2
 returns-2 c =
-    let read = c .before .before .before .before in
-    let named = read .before .before .before .before in
-    let a = named .before .before .before .before .before .before .args in
+    let read = c .before .before .before .before in let named = read .before .before .before .before in
+    let a = begun named .args in
     atom-refused (settingOf (a .text .now) (a .scope) (a .problem .now) (a .table)) _ (memory (a .names .now) (a .work .now)) (a .to) _ (name-taken named)
     (terms-malformed _ _ _ _ _ _ _ _ _ (read .read-arguments .ensures) (c .enum-told .given .1))
 
@@ -97,17 +75,17 @@ read-atom-spec =
     (λ c κs. search needs)
     (λ c. search needs)
     (λ c. search needs)
-    read-arguments-requires
+    (λ c κs. omega (arith, name-taken (c .before .before .before)))
     (λ c. search needs)
-    sub-size
+    (λ c. omega (arith, name-taken (named (c .before))))
     (λ c κs. search needs)
-    cast-set-number
-    mul-set-number
-    add-set-number
-    mul-set-number-2
-    add-set-number-2
+    (λ c. omega (arith, bounds (c .before)))
+    (λ c. omega (arith, bounds (c .before)))
+    (λ c. omega (arith, bounds (c .before)))
+    (λ c. omega (arith, bounds (c .before)))
+    (λ c. omega (arith, bounds (c .before)))
     (λ c κs. search needs)
-    add-t31
+    (λ c. omega (arith, bounds (c .before .before .before .before)))
     (λ c κs. search needs)
     (λ c. search needs)
     (λ c. search needs)

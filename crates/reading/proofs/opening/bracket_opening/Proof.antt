@@ -14,55 +14,35 @@ returns c =
 returns-2 : tie.Need-returns-2
 unfolding bracketOpening
 returns-2 c =
-    let if1 = c .before .before .before .if1 in
-    let begins-at = c .before .before .before .before .begins-at in
-    rw (sym (begins-at .ensures) ∙ if1 .left, sym (c .before .begins-at2 .ensures) ∙ c .if2 .taken)
+    let first = c .before .before .before in
+    rw (sym (first .before .begins-at .ensures) ∙ first .if1 .left, sym (c .before .begins-at2 .ensures) ∙ c .if2 .taken)
 
 returns-3 : tie.Need-returns-3
 unfolding bracketOpening
 returns-3 c =
-    let if2 = c .before .before .before .if2 in
-    let begins-at2 = c .before .before .before .before .begins-at2 in
-    let if1 = c .before .before .before .before .before .before .if1 in
-    let begins-at = c .before .before .before .before .before .before .before .begins-at in
-    rw (sym (begins-at .ensures) ∙ if1 .left, sym (begins-at2 .ensures) ∙ if2 .left, sym (c .before .begins-at3 .ensures) ∙ c .if3 .taken)
+    let second = c .before .before .before in let first = second .before .before .before in
+    rw (sym (first .before .begins-at .ensures) ∙ first .if1 .left, sym (second .before .begins-at2 .ensures) ∙ second .if2 .left, sym (c .before .begins-at3 .ensures) ∙ c .if3 .taken)
 
 returns-4 : tie.Need-returns-4
 unfolding bracketOpening
 returns-4 c =
-    let if3 = c .before .before .before .if3 in
-    let begins-at3 = c .before .before .before .before .begins-at3 in
-    let if2 = c .before .before .before .before .before .before .if2 in
-    let begins-at2 = c .before .before .before .before .before .before .before .begins-at2 in
-    let if1 = c .before .before .before .before .before .before .before .before .before .if1 in
-    let begins-at = c .before .before .before .before .before .before .before .before .before .before .begins-at in
-    rw (sym (begins-at .ensures) ∙ if1 .left, sym (begins-at2 .ensures) ∙ if2 .left, sym (begins-at3 .ensures) ∙ if3 .left, sym (c .before .begins-at4 .ensures) ∙ c .if4 .taken)
+    let third = c .before .before .before in let second = third .before .before .before in
+    let first = second .before .before .before in
+    rw (sym (first .before .begins-at .ensures) ∙ first .if1 .left, sym (second .before .begins-at2 .ensures) ∙ second .if2 .left, sym (third .before .begins-at3 .ensures) ∙ third .if3 .left, sym (c .before .begins-at4 .ensures) ∙ c .if4 .taken)
 
 returns-5 : tie.Need-returns-5
 unfolding bracketOpening
 returns-5 c =
-    let if4 = c .before .before .before .if4 in
-    let begins-at4 = c .before .before .before .before .begins-at4 in
-    let if3 = c .before .before .before .before .before .before .if3 in
-    let begins-at3 = c .before .before .before .before .before .before .before .begins-at3 in
-    let if2 = c .before .before .before .before .before .before .before .before .before .if2 in
-    let begins-at2 = c .before .before .before .before .before .before .before .before .before .before .begins-at2 in
-    let if1 = c .before .before .before .before .before .before .before .before .before .before .before .before .if1 in
-    let begins-at = c .before .before .before .before .before .before .before .before .before .before .before .before .before .begins-at in
-    rw (sym (begins-at .ensures) ∙ if1 .left, sym (begins-at2 .ensures) ∙ if2 .left, sym (begins-at3 .ensures) ∙ if3 .left, sym (begins-at4 .ensures) ∙ if4 .left, sym (c .before .begins-at5 .ensures) ∙ c .if5 .taken)
+    let fourth = c .before .before .before in let third = fourth .before .before .before in
+    let second = third .before .before .before in let first = second .before .before .before in
+    rw (sym (first .before .begins-at .ensures) ∙ first .if1 .left, sym (second .before .begins-at2 .ensures) ∙ second .if2 .left, sym (third .before .begins-at3 .ensures) ∙ third .if3 .left, sym (fourth .before .begins-at4 .ensures) ∙ fourth .if4 .left, sym (c .before .begins-at5 .ensures) ∙ c .if5 .taken)
 
 returns-6 : tie.Need-returns-6
 unfolding bracketOpening
 returns-6 c =
-    let if4 = c .before .before .before .if4 in
-    let begins-at4 = c .before .before .before .before .begins-at4 in
-    let if3 = c .before .before .before .before .before .before .if3 in
-    let begins-at3 = c .before .before .before .before .before .before .before .begins-at3 in
-    let if2 = c .before .before .before .before .before .before .before .before .before .if2 in
-    let begins-at2 = c .before .before .before .before .before .before .before .before .before .before .begins-at2 in
-    let if1 = c .before .before .before .before .before .before .before .before .before .before .before .before .if1 in
-    let begins-at = c .before .before .before .before .before .before .before .before .before .before .before .before .before .begins-at in
-    rw (sym (begins-at .ensures) ∙ if1 .left, sym (begins-at2 .ensures) ∙ if2 .left, sym (begins-at3 .ensures) ∙ if3 .left, sym (begins-at4 .ensures) ∙ if4 .left, sym (c .before .begins-at5 .ensures) ∙ c .if5 .left)
+    let fourth = c .before .before .before in let third = fourth .before .before .before in
+    let second = third .before .before .before in let first = second .before .before .before in
+    rw (sym (first .before .begins-at .ensures) ∙ first .if1 .left, sym (second .before .begins-at2 .ensures) ∙ second .if2 .left, sym (third .before .begins-at3 .ensures) ∙ third .if3 .left, sym (fourth .before .begins-at4 .ensures) ∙ fourth .if4 .left, sym (c .before .begins-at5 .ensures) ∙ c .if5 .left)
 
 pub bracket-opening-spec : {M : Type 1} → statement M
 bracket-opening-spec =

@@ -14,27 +14,21 @@ returns c =
 returns-2 : tie.Need-returns-2
 unfolding openingOf
 returns-2 c =
-    let if1 = c .before .before .before .if1 in
-    let begins-at = c .before .before .before .before .begins-at in
-    rw (sym (begins-at .ensures) ∙ if1 .left, sym (c .before .begins-at2 .ensures) ∙ c .if2 .taken)
+    let first = c .before .before .before in
+    rw (sym (first .before .begins-at .ensures) ∙ first .if1 .left, sym (c .before .begins-at2 .ensures) ∙ c .if2 .taken)
 
 returns-3 : tie.Need-returns-3
 unfolding openingOf
 returns-3 c =
-    let if2 = c .before .before .before .if2 in
-    let begins-at2 = c .before .before .before .before .begins-at2 in
-    let if1 = c .before .before .before .before .before .before .if1 in
-    let begins-at = c .before .before .before .before .before .before .before .begins-at in
-    rw (sym (begins-at .ensures) ∙ if1 .left, sym (begins-at2 .ensures) ∙ if2 .left, sym (c .before .begins-at3 .ensures) ∙ c .if3 .taken)
+    let second = c .before .before .before in let first = second .before .before .before in
+    rw (sym (first .before .begins-at .ensures) ∙ first .if1 .left, sym (second .before .begins-at2 .ensures) ∙ second .if2 .left, sym (c .before .begins-at3 .ensures) ∙ c .if3 .taken)
 
 returns-4 : tie.Need-returns-4
 unfolding openingOf
 returns-4 c =
-    let if2 = c .before .before .before .before .if2 in
-    let begins-at2 = c .before .before .before .before .before .begins-at2 in
-    let if1 = c .before .before .before .before .before .before .before .if1 in
-    let begins-at = c .before .before .before .before .before .before .before .before .begins-at in
-    rw (sym (begins-at .ensures) ∙ if1 .left, sym (begins-at2 .ensures) ∙ if2 .left, sym (c .before .before .begins-at3 .ensures) ∙ c .before .if3 .left) (c .bracket-opening .ensures)
+    let third = c .before in let second = third .before .before .before in
+    let first = second .before .before .before in
+    rw (sym (first .before .begins-at .ensures) ∙ first .if1 .left, sym (second .before .begins-at2 .ensures) ∙ second .if2 .left, sym (third .before .begins-at3 .ensures) ∙ third .if3 .left) (c .bracket-opening .ensures)
 
 pub opening-at-spec : {M : Type 1} → statement M
 opening-at-spec =
