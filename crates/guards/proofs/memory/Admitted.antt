@@ -37,10 +37,10 @@ module _ (work : List ℕ) (at levels word : ℕ) (here : word ≡ getD work at 
   unfolding guardClosed
   closed-here b e = e ∙ rw (here, next-within work at, ← drop-drop 1 at work)
 
-  pub admits-here : (table : Table) (rows : List ℕ) (v : ℕ) (b : Bool)
-      → b ≡ trueAt table rows levels (set (replicate 64 0) (word / 16 % 64) v) (drop (at + 1) work) → b ≡ guardAdmits table rows levels (drop at work) v
+  pub admits-here : (table : Table) (rows : List ℕ) (v : ℕ) (values : List ℕ) → values ≡ set (replicate 64 0) (word / 16 % 64) v
+      → (b : Bool) → b ≡ trueAt table rows levels values (drop (at + 1) work) → b ≡ guardAdmits table rows levels (drop at work) v
   unfolding guardAdmits
-  admits-here table rows v b e = e ∙ rw (here, next-within work at, ← drop-drop 1 at work)
+  admits-here table rows v values with b e = e ∙ rw (with, here, next-within work at, ← drop-drop 1 at work)
 
 -- Flags one by one, for the elements from i + 1 on.
 

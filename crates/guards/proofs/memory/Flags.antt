@@ -59,35 +59,37 @@ module _ (work : List ℕ) (at levels : ℕ) (flags : List Bool) (some : levels 
       pick zero h = absurd (h refl)
       pick (suc l) h = rw (← next-within work at, e, drop-drop 1 at work, sub-one (suc l))
 
-  pub closed-truth : (b : Bool) → kindOf (getD work at 0) ≡ kind.Truth b → true ≡ closedAt levels flags (drop at work)
-  unfolding formulaBy closed
-  closed-truth b e = sym (closed-kind _ e)
-
   -- past the end
   pub closed-beyond : length work ≤ at → true ≡ closedAt levels flags (drop at work)
-  unfolding kindBy
-  closed-beyond h = closed-truth false (rw (List·getD-eq-default work 0 h))
+  unfolding kindBy formulaBy closed
+  closed-beyond h = sym (closed-kind (kind.Truth false) (rw (List·getD-eq-default work 0 h)))
 
-  pub closed-term : kindOf (getD work at 0) ≡ kind.Term → true ≡ closedAt levels flags (drop at work)
-  unfolding formulaBy closed
-  closed-term e = sym (closed-kind _ e)
+  -- as the kind was seen, and what was told of what stands behind
+  module _ (k : Kind) (seen : k ≡ kindOf (getD work at 0)) where
+    pub closed-truth : (b : Bool) → k ≡ kind.Truth b → true ≡ closedAt levels flags (drop at work)
+    unfolding formulaBy closed
+    closed-truth b e = sym (closed-kind _ (sym seen ∙ e))
 
-  pub closed-atom : (p n : ℕ) → kindOf (getD work at 0) ≡ kind.Atom p n → closedAt levels flags (drop at work) ≡ termsClosedAt flags (n % 4) (drop (at + 1) work)
-  unfolding formulaBy closed termsClosedAt
-  closed-atom p n e = closed-kind _ e
+    pub closed-term : k ≡ kind.Term → true ≡ closedAt levels flags (drop at work)
+    unfolding formulaBy closed
+    closed-term e = sym (closed-kind _ (sym seen ∙ e))
 
-  pub closed-equal : kindOf (getD work at 0) ≡ kind.Equality → closedAt levels flags (drop at work) ≡ termsClosedAt flags 2 (drop (at + 1) work)
-  unfolding formulaBy closed termsClosedAt termsAt
-  closed-equal e = closed-kind _ e ∙ rw (next-within (drop (at + 1) work) 1, and-true)
+    pub closed-atom : (p n : ℕ) → k ≡ kind.Atom p n → (b : Bool) → b ≡ termsClosedAt flags (n % 4) (drop (at + 1) work) → b ≡ closedAt levels flags (drop at work)
+    unfolding formulaBy closed termsClosedAt
+    closed-atom p n e b is = is ∙ sym (closed-kind _ (sym seen ∙ e))
 
-  pub closed-connective : (o : Sign) (n : ℕ) → kindOf (getD work at 0) ≡ kind.Connective o n → closedAt levels flags (drop at work) ≡ allClosedAt (levels - 1) flags n (drop (at + 1) work)
-  unfolding formulaBy closed allClosedAt
-  closed-connective o n e = closed-kind _ e
+    pub closed-equal : k ≡ kind.Equality → (b : Bool) → b ≡ termsClosedAt flags 2 (drop (at + 1) work) → b ≡ closedAt levels flags (drop at work)
+    unfolding formulaBy closed termsClosedAt termsAt
+    closed-equal e b is = is ∙ sym (closed-kind _ (sym seen ∙ e) ∙ rw (next-within (drop (at + 1) work) 1, and-true))
 
-  pub closed-quantifier : (b : Bool) (x : ℕ) → length flags ≡ 64 → kindOf (getD work at 0) ≡ kind.Quantifier b x
-      → closedAt levels flags (drop at work) ≡ allClosedAt (levels - 1) (set flags (x % 64) true) 2 (drop (at + 1) work)
-  unfolding formulaBy closed allClosedAt partsBy
-  closed-quantifier b x h e = closed-kind _ e ∙ rw (flagged-set flags (x % 64) (omega arith), and-true)
+    pub closed-connective : (o : Sign) (n : ℕ) → k ≡ kind.Connective o n → (b : Bool) → b ≡ allClosedAt (levels - 1) flags n (drop (at + 1) work) → b ≡ closedAt levels flags (drop at work)
+    unfolding formulaBy closed allClosedAt
+    closed-connective o n e b is = is ∙ sym (closed-kind _ (sym seen ∙ e))
+
+    pub closed-quantifier : (every : Bool) (x : ℕ) → k ≡ kind.Quantifier every x → length flags ≡ 64 → (more : List Bool) → more ≡ set flags (x % 64) true
+        → (b : Bool) → b ≡ allClosedAt (levels - 1) more 2 (drop (at + 1) work) → b ≡ closedAt levels flags (drop at work)
+    unfolding formulaBy closed allClosedAt partsBy
+    closed-quantifier every x e h more with b is = is ∙ rw with (sym (closed-kind _ (sym seen ∙ e) ∙ rw (flagged-set flags (x % 64) (omega arith), and-true)))
 
 -- A turn of each loop.
 module _ (work : List ℕ) (i n : ℕ) (flags : List Bool) (more : 0 < n) where
@@ -101,11 +103,12 @@ module _ (work : List ℕ) (i n : ℕ) (flags : List Bool) (more : 0 < n) where
         pick zero h = absurd (omega arith)
         pick (suc n) h = rw (sub-one (suc n), drop-drop (skip (drop i work) 1) i work)
 
-    pub allClosed-more : closedAt levels flags (drop i work) ≡ true → allClosedAt levels flags n (drop i work) ≡ allClosedAt levels flags (n - 1) (drop (i + skip (drop i work) 1) work)
-    allClosed-more e = rw (allClosed-first, e)
+    module _ (all : Bool) (so : all ≡ allClosedAt levels flags n (drop i work)) (b : Bool) (is : b ≡ closedAt levels flags (drop i work)) where
+      pub allClosed-more : b ≡ true → (next : ℕ) → next ≡ i + skip (drop i work) 1 → all ≡ allClosedAt levels flags (n - 1) (drop next work)
+      allClosed-more e next at = so ∙ rw (allClosed-first, sym is ∙ e, at)
 
-    pub allClosed-stop : closedAt levels flags (drop i work) ≡ false → allClosedAt levels flags n (drop i work) ≡ false
-    allClosed-stop e = rw (allClosed-first, e)
+      pub allClosed-stop : b ≡ false → false ≡ all
+      allClosed-stop e = sym (so ∙ rw (allClosed-first, sym is ∙ e))
 
   termsClosed-first : termsClosedAt flags n (drop i work) ≡ (termClosed (flagged flags) (termOf indexName (getD work i 0)) && termsClosedAt flags (n - 1) (drop (i + 1) work))
   unfolding termsClosedAt termsAt
@@ -122,9 +125,9 @@ module _ (work : List ℕ) (i n : ℕ) (flags : List Bool) (more : 0 < n) where
   pub termsClosed-stop : termClosed (flagged flags) (termOf indexName (getD work i 0)) ≡ false → termsClosedAt flags n (drop i work) ≡ false
   termsClosed-stop e = termsClosed-first ∙ ap (λ (b : Bool). b && termsClosedAt flags (n - 1) (drop (i + 1) work)) e
 
-pub allClosed-none : (levels n : ℕ) (flags : List Bool) (s : List ℕ) → n ≡ 0 → allClosedAt levels flags n s ≡ true
+pub allClosed-none : (levels n : ℕ) (flags : List Bool) (s : List ℕ) (all : Bool) → all ≡ allClosedAt levels flags n s → n ≡ 0 → true ≡ all
 unfolding allClosedAt partsBy closed
-allClosed-none levels n flags s e = rw e
+allClosed-none levels n flags s all so e = sym (so ∙ rw e)
 
 pub termsClosed-none : (n : ℕ) (flags : List Bool) (s : List ℕ) → n ≡ 0 → termsClosedAt flags n s ≡ true
 unfolding termsClosedAt termsAt

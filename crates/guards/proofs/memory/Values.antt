@@ -95,21 +95,21 @@ join-open false true r e = absurd (false≢true (sym e))
 join-open false false r e = refl
 
 -- of the connectives that go by two parts
-abbrev pub isPair : Sign → Bool
+abbrev isPair : Sign → Bool
 isPair sign.Negation = true
 isPair sign.Implies = true
 isPair sign.ImpliedBy = true
 isPair sign.Equivalent = true
 isPair (sign.Junction every) = false
 
-pub connect-pair : (o : Sign) (bs : List Bool) → isPair o ≡ true → connect (connectiveOf o) (getD bs 0 false ∷ getD bs 1 false ∷ []) ≡ connect (connectiveOf o) bs
-connect-pair sign.Negation bs e = refl
-connect-pair sign.Implies bs e = refl
-connect-pair sign.ImpliedBy bs e = refl
-connect-pair sign.Equivalent bs e = refl
-connect-pair (sign.Junction every) bs e = absurd (false≢true e)
+pair-connects : (o : Sign) (bs : List Bool) → isPair o ≡ true → connect (connectiveOf o) (getD bs 0 false ∷ getD bs 1 false ∷ []) ≡ connect (connectiveOf o) bs
+pair-connects sign.Negation bs e = refl
+pair-connects sign.Implies bs e = refl
+pair-connects sign.ImpliedBy bs e = refl
+pair-connects sign.Equivalent bs e = refl
+pair-connects (sign.Junction every) bs e = absurd (false≢true e)
 
-pub connect-settled : (o : Sign) (a b c : Bool) → settledFirst o a ≡ true → connect (connectiveOf o) (a ∷ b ∷ []) ≡ connect (connectiveOf o) (a ∷ c ∷ [])
+connect-settled : (o : Sign) (a b c : Bool) → settledFirst o a ≡ true → connect (connectiveOf o) (a ∷ b ∷ []) ≡ connect (connectiveOf o) (a ∷ c ∷ [])
 connect-settled sign.Negation a b c e = refl
 connect-settled sign.Implies true b c e = absurd (false≢true e)
 connect-settled sign.Implies false b c e = refl
@@ -117,6 +117,23 @@ connect-settled sign.ImpliedBy true b c e = or-true (not b) ∙ sym (or-true (no
 connect-settled sign.ImpliedBy false b c e = absurd (false≢true e)
 connect-settled sign.Equivalent a b c e = absurd (false≢true e)
 connect-settled (sign.Junction every) a b c e = absurd (false≢true e)
+
+-- The value of what has these parts, by what was told of sign and parts.
+module _ (o : Sign) (bs : List Bool) where
+  pub connect-as : (q : Sign) → o ≡ q → (b : Bool) → b ≡ connect (connectiveOf q) bs → b ≡ connect (connectiveOf o) bs
+  connect-as q e b is = rw e is
+
+  pub connect-pair : (q : Sign) → o ≡ q → isPair q ≡ true → (b : Bool) → b ≡ connect (connectiveOf o) (getD bs 0 false ∷ getD bs 1 false ∷ []) → b ≡ connect (connectiveOf o) bs
+  connect-pair q e pair b is = is ∙ pair-connects o bs (ap isPair e ∙ pair)
+
+  module _ (first : Bool) (one : first ≡ getD bs 0 false) where
+    pub two-settled : (settled : Bool) → settled ≡ settledFirst o first → settled ≡ true → (other b : Bool) → b ≡ connect (connectiveOf o) (first ∷ other ∷ [])
+        → b ≡ connect (connectiveOf o) (getD bs 0 false ∷ getD bs 1 false ∷ [])
+    two-settled settled tells e other b is = is ∙ connect-settled o first other (getD bs 1 false) (sym tells ∙ e) ∙ rw one
+
+    pub two-both : (second : Bool) → second ≡ getD bs 1 false → (b : Bool) → b ≡ connect (connectiveOf o) (first ∷ second ∷ [])
+        → b ≡ connect (connectiveOf o) (getD bs 0 false ∷ getD bs 1 false ∷ [])
+    two-both second two b is = is ∙ rw (one, two)
 
 -- A connective's value from two parts' values, by its sign and the first value.
 module _ (o : Sign) (a b : Bool) where
@@ -162,40 +179,42 @@ module _ (table : Table) (rows : List ℕ) where
         pick zero h = absurd (h refl)
         pick (suc l) h = rw (← next-within work at, e, drop-drop 1 at work, sub-one (suc l))
 
-    pub value-truth : (b : Bool) → kindOf (getD work at 0) ≡ kind.Truth b → b ≡ trueAt table rows levels values (drop at work)
-    unfolding formulaBy holds
-    value-truth b e = sym (value-kind _ e)
-
     pub value-beyond : length work ≤ at → false ≡ trueAt table rows levels values (drop at work)
-    unfolding kindBy
-    value-beyond h = value-truth false (rw (List·getD-eq-default work 0 h))
+    unfolding kindBy formulaBy holds
+    value-beyond h = sym (value-kind (kind.Truth false) (rw (List·getD-eq-default work 0 h)))
 
-    pub value-term : kindOf (getD work at 0) ≡ kind.Term → false ≡ trueAt table rows levels values (drop at work)
-    unfolding formulaBy holds
-    value-term e = sym (value-kind _ e)
+    -- as the kind was seen, and what was told of what stands behind
+    module _ (k : Kind) (seen : k ≡ kindOf (getD work at 0)) where
+      pub value-truth : (b : Bool) → k ≡ kind.Truth b → b ≡ trueAt table rows levels values (drop at work)
+      unfolding formulaBy holds
+      value-truth b e = sym (value-kind _ (sym seen ∙ e))
 
-    pub value-atom : (p n : ℕ) → kindOf (getD work at 0) ≡ kind.Atom p n → trueAt table rows levels values (drop at work) ≡ atomAt table rows values p n (drop (at + 1) work)
-    unfolding formulaBy holds atomAt
-    value-atom p n e = value-kind _ e
+      pub value-term : k ≡ kind.Term → false ≡ trueAt table rows levels values (drop at work)
+      unfolding formulaBy holds
+      value-term e = sym (value-kind _ (sym seen ∙ e))
 
-    pub value-equal : kindOf (getD work at 0) ≡ kind.Equality
-        → trueAt table rows levels values (drop at work) ≡ eqb (valueAt work at values (at + 1)) (valueAt work at values (at + 1 + 1))
-    unfolding formulaBy holds
-    value-equal e = value-kind _ e ∙ rw (← next-within work (at + 1), getD-drop (at + 1) work 1 0)
+      pub value-atom : (p n : ℕ) → k ≡ kind.Atom p n → (b : Bool) → b ≡ atomAt table rows values p n (drop (at + 1) work) → b ≡ trueAt table rows levels values (drop at work)
+      unfolding formulaBy holds atomAt
+      value-atom p n e b is = is ∙ sym (value-kind _ (sym seen ∙ e))
 
-    pub value-connective : (o : Sign) (n : ℕ) → kindOf (getD work at 0) ≡ kind.Connective o n
-        → trueAt table rows levels values (drop at work) ≡ connect (connectiveOf o) (truthsAt table rows (levels - 1) values n (drop (at + 1) work))
-    unfolding formulaBy holds truthsAt
-    value-connective o n e = value-kind _ e
+      pub value-equal : k ≡ kind.Equality → (b : Bool) → b ≡ eqb (valueAt work at values (at + 1)) (valueAt work at values (at + 1 + 1)) → b ≡ trueAt table rows levels values (drop at work)
+      unfolding formulaBy holds
+      value-equal e b is = is ∙ sym (value-kind _ (sym seen ∙ e) ∙ rw (← next-within work (at + 1), getD-drop (at + 1) work 1 0))
 
-    pub value-quantifier : (every : Bool) (x : ℕ) → length values ≡ 64 → kindOf (getD work at 0) ≡ kind.Quantifier every x
-        → trueAt table rows levels values (drop at work) ≡ eachAt table rows (levels - 1) values every x (drop (at + 1) work) 1 (table .domain)
-    unfolding formulaBy holds eachAt elementAt trueAt
-    value-quantifier every x h e =
-        value-kind _ e
-        ∙ ap (λ (ρ : ℕ → Environment). joinAll (sideOf every) (map (λ (u : ℕ). guarded (sideOf every) (holds (tableStructure table rows) (ρ u) (stored (levels - 1) (drop (at + 1) work)))
-        (holds (tableStructure table rows) (ρ u) (stored (levels - 1) (afterFirst (drop (at + 1) work))))) (elementsTo (table .domain))))
-        (fun-ext (λ (u : ℕ). valued-set values (x % 64) u (omega arith)))
+      pub value-connective : (o : Sign) (n : ℕ) → k ≡ kind.Connective o n
+          → (b : Bool) → b ≡ connect (connectiveOf o) (truthsAt table rows (levels - 1) values n (drop (at + 1) work)) → b ≡ trueAt table rows levels values (drop at work)
+      unfolding formulaBy holds truthsAt
+      value-connective o n e b is = is ∙ sym (value-kind _ (sym seen ∙ e))
+
+      pub value-quantifier : (every : Bool) (x : ℕ) → k ≡ kind.Quantifier every x → length values ≡ 64
+          → (b : Bool) → b ≡ eachAt table rows (levels - 1) values every x (drop (at + 1) work) 1 (table .domain) → b ≡ trueAt table rows levels values (drop at work)
+      unfolding formulaBy holds eachAt elementAt trueAt
+      value-quantifier every x e h b is =
+          is ∙ sym
+          (value-kind _ (sym seen ∙ e)
+          ∙ ap (λ (ρ : ℕ → Environment). joinAll (sideOf every) (map (λ (u : ℕ). guarded (sideOf every) (holds (tableStructure table rows) (ρ u) (stored (levels - 1) (drop (at + 1) work)))
+          (holds (tableStructure table rows) (ρ u) (stored (levels - 1) (afterFirst (drop (at + 1) work))))) (elementsTo (table .domain))))
+          (fun-ext (λ (u : ℕ). valued-set values (x % 64) u (omega arith))))
 
   -- One of the parts.
   module _ (levels : ℕ) (values : List ℕ) where
@@ -235,8 +254,8 @@ module _ (table : Table) (rows : List ℕ) where
       abbrev pub partsFrom : ℕ → ℕ → Bool
       partsFrom i n = joinAll (sideOf every) (truthsAt table rows levels values n (drop i work))
 
-      pub parts-end : n ≡ 0 → partsFrom i n ≡ every
-      parts-end e = rw (e, truths-none (drop i work)) (unit-side every)
+      pub parts-end : (all : Bool) → all ≡ partsFrom i n → n ≡ 0 → every ≡ all
+      parts-end all so e = sym (so ∙ rw (e, truths-none (drop i work)) (unit-side every))
 
       parts-first : 0 < n → partsFrom i n ≡ join (sideOf every) (trueAt table rows levels values (drop i work)) (partsFrom (i + skip (drop i work) 1) (n - 1))
       parts-first h = pick n h
@@ -245,29 +264,30 @@ module _ (table : Table) (rows : List ℕ) where
           pick zero h = absurd (omega arith)
           pick (suc n) h = rw (truths-first n (drop i work), sub-one (suc n), drop-drop (skip (drop i work) 1) i work)
 
-      module _ (b : Bool) (more : 0 < n) (is : b ≡ trueAt table rows levels values (drop i work)) where
-        pub parts-settled : settledBy every b ≡ true → partsFrom i n ≡ b
-        parts-settled e = parts-first more ∙ rw (← is) (join-settled every b _ e)
+      module _ (all : Bool) (so : all ≡ partsFrom i n) (b : Bool) (more : 0 < n) (is : b ≡ trueAt table rows levels values (drop i work)) (settled : Bool) (tells : settled ≡ settledBy every b) where
+        pub parts-settled : settled ≡ true → b ≡ all
+        parts-settled e = sym (so ∙ parts-first more ∙ rw (← is) (join-settled every b _ (sym tells ∙ e)))
 
-        pub parts-open : (next : ℕ) → settledBy every b ≡ false → next ≡ i + skip (drop i work) 1 → partsFrom i n ≡ partsFrom next (n - 1)
-        parts-open next e q = parts-first more ∙ rw (← is, q) (join-open every b _ e)
+        pub parts-open : (next : ℕ) → settled ≡ false → next ≡ i + skip (drop i work) 1 → all ≡ partsFrom next (n - 1)
+        parts-open next e q = so ∙ parts-first more ∙ rw (← is, q) (join-open every b _ (sym tells ∙ e))
 
   -- Guard and body at one element.
   module _ (work : List ℕ) (at levels : ℕ) (values : List ℕ) (every : Bool) where
-    pub element-outside : trueAt table rows levels values (drop at work) ≡ false → every ≡ elementAt table rows levels values every (drop at work)
-    unfolding elementAt
-    element-outside e = rw e (sym (unit-side every))
+    module _ (guard : Bool) (told : guard ≡ trueAt table rows levels values (drop at work)) where
+      pub element-outside : guard ≡ false → every ≡ elementAt table rows levels values every (drop at work)
+      unfolding elementAt
+      element-outside e = rw (sym told ∙ e) (sym (unit-side every))
 
-    pub element-inside : (body : ℕ) (b : Bool) → trueAt table rows levels values (drop at work) ≡ true → body ≡ at + skip (drop at work) 1
-        → b ≡ trueAt table rows levels values (drop body work) → b ≡ elementAt table rows levels values every (drop at work)
-    unfolding elementAt
-    element-inside body b e q is = rw (e, drop-drop (skip (drop at work) 1) at work, ← q) is
+      pub element-inside : guard ≡ true → (body : ℕ) (b : Bool) → body ≡ at + skip (drop at work) 1
+          → b ≡ trueAt table rows levels values (drop body work) → b ≡ elementAt table rows levels values every (drop at work)
+      unfolding elementAt
+      element-inside e body b q is = rw (sym told ∙ e, drop-drop (skip (drop at work) 1) at work, ← q) is
 
   -- a turn over the elements
   module _ (levels : ℕ) (values : List ℕ) (every : Bool) (x : ℕ) (s : List ℕ) (v n : ℕ) where
-    pub each-end : n ≡ 0 → eachAt table rows levels values every x s v n ≡ every
+    pub each-end : (all : Bool) → all ≡ eachAt table rows levels values every x s v n → n ≡ 0 → every ≡ all
     unfolding eachAt
-    each-end e = rw e (unit-side every)
+    each-end all so e = sym (so ∙ rw e (unit-side every))
 
     each-first : 0 < n
         → eachAt table rows levels values every x s v n
@@ -281,9 +301,13 @@ module _ (table : Table) (rows : List ℕ) where
         pick zero h = absurd (omega arith)
         pick (suc n) h = rw (add-one v, sub-one (suc n))
 
-    module _ (b : Bool) (more : 0 < n) (is : b ≡ elementAt table rows levels (set values (x % 64) v) every s) where
-      pub each-settled : settledBy every b ≡ true → eachAt table rows levels values every x s v n ≡ b
-      each-settled e = each-first more ∙ rw (← is) (join-settled every b _ e)
+    module _ (all : Bool) (so : all ≡ eachAt table rows levels values every x s v n) (b : Bool) (more : 0 < n) (held : List ℕ) (with : held ≡ set values (x % 64) v)
+        (is : b ≡ elementAt table rows levels held every s) (settled : Bool) (tells : settled ≡ settledBy every b) where
+      here : elementAt table rows levels (set values (x % 64) v) every s ≡ b
+      here = rw (← with) (sym is)
 
-      pub each-open : settledBy every b ≡ false → eachAt table rows levels values every x s v n ≡ eachAt table rows levels values every x s (v + 1) (n - 1)
-      each-open e = each-first more ∙ rw (← is) (join-open every b _ e)
+      pub each-settled : settled ≡ true → b ≡ all
+      each-settled e = sym (so ∙ each-first more ∙ rw here (join-settled every b _ (sym tells ∙ e)))
+
+      pub each-open : settled ≡ false → all ≡ eachAt table rows levels values every x s (v + 1) (n - 1)
+      each-open e = so ∙ each-first more ∙ rw here (join-open every b _ (sym tells ∙ e))

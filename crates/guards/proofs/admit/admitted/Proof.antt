@@ -4,11 +4,9 @@ use borrow.Author.Needs.{needs}
 use native.Mathlib.Omega.{arith}
 use Prim.Native.Nat.{ℕ, _+_, _-_, _≤_}
 use mathlib.Core.Path.{_≡_, sym, ap, _∙_}
-use mathlib.Core.List.{List}
 use mathlib.Core.Bool.{Bool, false}
 use lib.ListN.{take, drop, replicate}
 use lib.Seq.{sets}
-use Rattle.guards.specs.memory.Values.{trueAt}
 use Rattle.guards.specs.memory.Admitted.{guardAdmits, admittedFlags}
 use Rattle.guards.proofs.memory.Admitted.{flagsFrom, flags-next, flags-none, flags-first, admits-here}
 use Rattle.guards.proofs.admit.admitted.Statement.{statement}
@@ -29,23 +27,20 @@ loop-holds c =
 
 loop-again : tie.Need-loop-again Inv-loop μ-loop
 loop-again c =
-    let loop = c .before .before .before .loop in
-    let peek = c .before .before .before .before .peek in
-    let a = c .before .before .before .before .before .before .before .args in
-    let l = loop in
+    let turn = c .before .before .before in let peeked = turn .before in
+    let a = peeked .before .before .before .args in
+    let l = turn .loop in
     let s = drop (a .at) (a .work .now) in
     let g : ℕ → Bool = guardAdmits (a .table) (a .rows .now) (a .levels) s in (
       omega arith,
-      l .inv .1
-          ∙ flags-next g (a .table .domain) (l .flags) (l .i) (c .evaluate .result) (omega arith)
-          (admits-here (a .work .now) (a .at) (a .levels) _ (peek .ensures) (a .table) (a .rows .now) (l .i + 1) _
-          (c .evaluate .ensures ∙ ap (λ (values : List ℕ). trueAt (a .table) (a .rows .now) (a .levels) values (drop (a .at + 1) (a .work .now))) (c .before .with-value .ensures))),
+      l .inv .1 ∙ flags-next g (a .table .domain) (l .flags) (l .i) (c .evaluate .result) (omega arith)
+          (admits-here (a .work .now) (a .at) (a .levels) _ (peeked .peek .ensures) (a .table) (a .rows .now) (l .i + 1) _ (c .before .with-value .ensures) _ (c .evaluate .ensures)),
     )
 
 returns : tie.Need-returns Inv-loop μ-loop
 returns c =
-    let a = c .before .before .before .before .before .args in
-    let l = c .before .loop in
+    let turn = c .before in let a = turn .before .before .before .before .args in
+    let l = turn .loop in
     let g : ℕ → Bool = guardAdmits (a .table) (a .rows .now) (a .levels) (drop (a .at) (a .work .now)) in
     ap (take (a .table .domain)) (sym (l .inv .1 ∙ flags-none g (a .table .domain) (l .flags) (l .i) (omega arith)))
     ∙ flags-first g (a .table .domain) (omega arith)

@@ -3,18 +3,13 @@
 -- Assumes nothing.
 use borrow.Author.Needs.{needs}
 use native.Mathlib.Omega.{arith}
-use Prim.Native.Nat.{ℕ, _+_, _*_, _≤_, ℕ, _<_}
-use mathlib.Core.Path.{_≡_, refl, sym, ap, ap₂, _∙_}
-use mathlib.Core.List.{List, [], _∷_}
-use mathlib.Core.Bool.{Bool, false}
-use lib.ListN.{length, drop, getD}
+use Prim.Native.Nat.{ℕ, _+_, _*_, _≤_, _<_}
+use mathlib.Core.Path.{_≡_, refl}
+use lib.ListN.{length, drop}
 use borrow.Author.Tests.{not-true, not-false}
-use Rattle.logic.specs.Meaning.{connect}
-use Rattle.words.specs.memory.Stored.{connectiveOf}
-use Rattle.words.specs.declared.word.Sign.{Sign}
-use Rattle.guards.specs.memory.Values.{truthsAt, elementAt, eachAt}
+use Rattle.guards.specs.memory.Values.{truthsAt, eachAt}
 use Rattle.guards.proofs.memory.Values.{value-no-level, value-beyond, value-truth, value-term, value-atom, value-equal, value-connective, value-quantifier}
-use Rattle.guards.proofs.memory.Values.{isPair, connect-pair, connect-settled, part-value, part-none, partsFrom, parts-end, parts-settled, parts-open}
+use Rattle.guards.proofs.memory.Values.{connect-pair, connect-as, two-settled, two-both, part-value, part-none, partsFrom, parts-end, parts-settled, parts-open}
 use Rattle.guards.proofs.memory.Values.{element-outside, element-inside, each-end, each-settled, each-open}
 use borrow.Fn.Kinds.{In}
 use borrow.Fn.PlainCycle.{Measures, is, falls, and}
@@ -168,25 +163,28 @@ parts-hold-calls t = (evaluate-below t, evaluate.Post, settles-reads.Asked, sett
 
 connective-holds-returns : (t : ℕ) → connective-holds-lts.Need-returns (connective-holds-calls t) (connective-holds-at t) connective-holds.Post
 connective-holds-returns t c =
-    c .pair-holds .ensures ∙ connect-pair (c .before .before .before .before .before .args .sign) _ (ap isPair (c .before .enum-told .given .1))
+    let told = c .before in let a = told .before .before .before .before .args in
+    connect-pair (a .sign) (truthsAt (a .table) (a .rows .now) (a .levels) (a .values) (a .parts) (drop (a .at) (a .work .now))) _ (told .enum-told .given .1) refl _ (c .pair-holds .ensures)
 
 connective-holds-returns-2 : (t : ℕ) → connective-holds-lts.Need-returns-2 (connective-holds-calls t) (connective-holds-at t) connective-holds.Post
 connective-holds-returns-2 t c =
-    c .pair-holds2 .ensures ∙ connect-pair (c .before .before .before .before .before .args .sign) _ (ap isPair (c .before .enum-told2 .given .1))
+    let told = c .before in let a = told .before .before .before .before .args in
+    connect-pair (a .sign) (truthsAt (a .table) (a .rows .now) (a .levels) (a .values) (a .parts) (drop (a .at) (a .work .now))) _ (told .enum-told2 .given .1) refl _ (c .pair-holds2 .ensures)
 
 connective-holds-returns-3 : (t : ℕ) → connective-holds-lts.Need-returns-3 (connective-holds-calls t) (connective-holds-at t) connective-holds.Post
 connective-holds-returns-3 t c =
-    c .pair-holds3 .ensures ∙ connect-pair (c .before .before .before .before .before .args .sign) _ (ap isPair (c .before .enum-told3 .given .1))
+    let told = c .before in let a = told .before .before .before .before .args in
+    connect-pair (a .sign) (truthsAt (a .table) (a .rows .now) (a .levels) (a .values) (a .parts) (drop (a .at) (a .work .now))) _ (told .enum-told3 .given .1) refl _ (c .pair-holds3 .ensures)
 
 connective-holds-returns-4 : (t : ℕ) → connective-holds-lts.Need-returns-4 (connective-holds-calls t) (connective-holds-at t) connective-holds.Post
 connective-holds-returns-4 t c =
-    c .pair-holds4 .ensures ∙ connect-pair (c .before .before .before .before .before .args .sign) _ (ap isPair (c .before .enum-told4 .given .1))
+    let told = c .before in let a = told .before .before .before .before .args in
+    connect-pair (a .sign) (truthsAt (a .table) (a .rows .now) (a .levels) (a .values) (a .parts) (drop (a .at) (a .work .now))) _ (told .enum-told4 .given .1) refl _ (c .pair-holds4 .ensures)
 
 connective-holds-returns-5 : (t : ℕ) → connective-holds-lts.Need-returns-5 (connective-holds-calls t) (connective-holds-at t) connective-holds.Post
 connective-holds-returns-5 t c =
-    let a = c .before .before .before .before .before .before .args in
-    let truths = truthsAt (a .table) (a .rows .now) (a .levels) (a .values) (a .parts) (drop (a .at) (a .work .now)) in
-    c .parts-hold .ensures ∙ ap (λ (o : Sign). connect (connectiveOf o) truths) (sym (c .before .before .sign .given .1))
+    let told = c .before .before in let a = told .before .before .before .before .args in
+    connect-as (a .sign) (truthsAt (a .table) (a .rows .now) (a .levels) (a .values) (a .parts) (drop (a .at) (a .work .now))) _ (told .sign .given .1) _ (c .parts-hold .ensures)
 
 abbrev each-holds-Inv-loop : each-holds-lts.InvT-loop
 each-holds-Inv-loop work at levels every variable values table rows v₀ pending₀ v pending =
@@ -197,56 +195,52 @@ each-holds-Inv-loop work at levels every variable values table rows v₀ pending
 abbrev each-holds-μ-loop : each-holds-lts.MeasureT-loop
 each-holds-μ-loop work at levels every variable values table rows v₀ pending₀ v pending = pending
 
-each-holds-loop-holds : (t : ℕ) → each-holds-lts.Need-loop-holds (each-holds-calls t) (each-holds-at t) each-holds.Post each-holds-Inv-loop each-holds-μ-loop
-each-holds-loop-holds t c = (omega arith, omega arith, refl)
-
 each-holds-returns : (t : ℕ) → each-holds-lts.Need-returns (each-holds-calls t) (each-holds-at t) each-holds.Post each-holds-Inv-loop each-holds-μ-loop
 each-holds-returns t c =
-    let with-value = c .before .before .before .with-value in
-    let loop = c .before .before .before .before .before .loop in
-    let a = c .before .before .before .before .before .before .before .before .args in
-    let l = loop in
-    let s = drop (a .at) (a .work .now) in
-    let is = c .before .before .element-holds .ensures ∙ ap (λ (e : List ℕ). elementAt (a .table) (a .rows .now) (a .levels) e (a .every) s) (with-value .ensures) in
-    let settled = sym (c .before .settles .ensures) ∙ c .if1 .taken in
-    sym (l .inv .2 ∙ each-settled (a .table) (a .rows .now) (a .levels) (a .values) (a .every) (a .variable) s (l .v) (l .pending) _ (omega arith) is settled)
+    let held = c .before .before in let top = held .before .before .before in
+    let a = top .before .before .before .args in
+    let l = top .loop in
+    each-settled (a .table) (a .rows .now) (a .levels) (a .values) (a .every) (a .variable) (drop (a .at) (a .work .now)) (l .v) (l .pending) _ (l .inv .2)
+    _ (omega arith) _ (held .before .with-value .ensures) (held .element-holds .ensures) _ (c .before .settles .ensures) (c .if1 .taken)
 
 each-holds-loop-again : (t : ℕ) → each-holds-lts.Need-loop-again (each-holds-calls t) (each-holds-at t) each-holds.Post each-holds-Inv-loop each-holds-μ-loop
 each-holds-loop-again t c =
-    let with-value = c .before .before .before .with-value in
-    let loop = c .before .before .before .before .before .loop in
-    let a = c .before .before .before .before .before .before .before .before .args in
-    let l = loop in
-    let s = drop (a .at) (a .work .now) in
-    let is = c .before .before .element-holds .ensures ∙ ap (λ (e : List ℕ). elementAt (a .table) (a .rows .now) (a .levels) e (a .every) s) (with-value .ensures) in
-    let unsettled = sym (c .before .settles .ensures) ∙ c .if1 .left in (
+    let held = c .before .before in let top = held .before .before .before in
+    let a = top .before .before .before .args in
+    let l = top .loop in (
       omega arith,
       omega arith,
-      l .inv .2 ∙ each-open (a .table) (a .rows .now) (a .levels) (a .values) (a .every) (a .variable) s (l .v) (l .pending) _ (omega arith) is unsettled,
+      each-open (a .table) (a .rows .now) (a .levels) (a .values) (a .every) (a .variable) (drop (a .at) (a .work .now)) (l .v) (l .pending) _ (l .inv .2)
+          _ (omega arith) _ (held .before .with-value .ensures) (held .element-holds .ensures) _ (c .before .settles .ensures) (c .if1 .left),
     )
 
 each-holds-returns-2 : (t : ℕ) → each-holds-lts.Need-returns-2 (each-holds-calls t) (each-holds-at t) each-holds.Post each-holds-Inv-loop each-holds-μ-loop
 each-holds-returns-2 t c =
     let a = c .before .before .before .before .args in
     let l = c .before .loop in
-    sym (l .inv .2 ∙ each-end (a .table) (a .rows .now) (a .levels) (a .values) (a .every) (a .variable) (drop (a .at) (a .work .now)) (l .v) (l .pending) (omega arith))
+    each-end (a .table) (a .rows .now) (a .levels) (a .values) (a .every) (a .variable) (drop (a .at) (a .work .now)) (l .v) (l .pending) _ (l .inv .2) (omega arith)
 
 element-holds-returns : (t : ℕ) → element-holds-lts.Need-returns (element-holds-calls t) (element-holds-at t) element-holds.Post
 element-holds-returns t c =
     let a = c .before .before .before .before .args in
-    let guard = sym (c .before .evaluate .ensures) ∙ not-true _ (c .if1 .taken) in
-    element-outside (a .table) (a .rows .now) (a .work .now) (a .at) (a .levels) (a .values) (a .every) guard
-
-element-holds-evaluate-requires-2 : (t : ℕ) → element-holds-lts.Need-evaluate-requires-2 (element-holds-calls t) (element-holds-at t) element-holds.Post
-element-holds-evaluate-requires-2 t c κs = (omega arith, (c .past .ensures .1, omega arith, omega arith))
+    element-outside (a .table) (a .rows .now) (a .work .now) (a .at) (a .levels) (a .values) (a .every) _ (c .before .evaluate .ensures) (not-true _ (c .if1 .taken))
 
 element-holds-returns-2 : (t : ℕ) → element-holds-lts.Need-returns-2 (element-holds-calls t) (element-holds-at t) element-holds.Post
 element-holds-returns-2 t c =
-    let evaluate-told = c .before .before .before .evaluate in
-    let a = c .before .before .before .before .before .before .args in
-    let guard = sym (evaluate-told .ensures) ∙ not-false _ (c .before .before .if1 .left) in
-    let body = c .before .past .ensures .0 in
-    element-inside (a .table) (a .rows .now) (a .work .now) (a .at) (a .levels) (a .values) (a .every) _ _ guard body (c .evaluate2 .ensures)
+    let inside = c .before .before in let a = inside .before .before .before .before .args in
+    element-inside (a .table) (a .rows .now) (a .work .now) (a .at) (a .levels) (a .values) (a .every) _ (inside .before .evaluate .ensures) (not-false _ (inside .if1 .left)) _ _ (c .before .past .ensures .0) (c .evaluate2 .ensures)
+
+-- the kind of the word
+module _ (t : ℕ) (seen : evaluate-lts.After-kind-of (evaluate-calls t) (evaluate-at t) evaluate.Post) where
+  abbrev levelled : evaluate-lts.Else1 (evaluate-calls t) (evaluate-at t) evaluate.Post
+  levelled = seen .before .before .before
+
+  abbrev begun : evaluate-lts.Start (evaluate-calls t) (evaluate-at t) evaluate.Post
+  begun = levelled .before .before .before
+
+-- a value for each variable
+values-long : (t : ℕ) (start : evaluate-lts.Start (evaluate-calls t) (evaluate-at t) evaluate.Post) → length (start .args .values) ≡ 64
+values-long t start = search needs
 
 evaluate-returns : (t : ℕ) → evaluate-lts.Need-returns (evaluate-calls t) (evaluate-at t) evaluate.Post
 evaluate-returns t c =
@@ -260,88 +254,58 @@ evaluate-returns-2 t c =
 
 evaluate-returns-3 : (t : ℕ) → evaluate-lts.Need-returns-3 (evaluate-calls t) (evaluate-at t) evaluate.Post
 evaluate-returns-3 t c =
-    let kind-of = c .before .before .before .kind-of in
-    let if1 = c .before .before .before .before .before .before .if1 in
-    let a = c .before .before .before .before .before .before .before .before .before .args in
-    let some = if1 .left in
-    let told = sym (kind-of .ensures) ∙ c .before .b .given .1 in
-    value-truth (a .table) (a .rows .now) (a .work .now) (a .at) (a .levels) (a .values) some _ told
+    let told = c .before in let seen = told .before .before in
+    let a = begun t seen .args in
+    value-truth (a .table) (a .rows .now) (a .work .now) (a .at) (a .levels) (a .values) (levelled t seen .if1 .left) _ (seen .kind-of .ensures) _ (told .b .given .1)
 
 evaluate-returns-4 : (t : ℕ) → evaluate-lts.Need-returns-4 (evaluate-calls t) (evaluate-at t) evaluate.Post
 evaluate-returns-4 t c =
-    let kind-of = c .before .before .before .before .kind-of in
-    let if1 = c .before .before .before .before .before .before .before .if1 in
-    let a = c .before .before .before .before .before .before .before .before .before .before .args in
-    let some = if1 .left in
-    let told = sym (kind-of .ensures) ∙ c .before .before .predicate .given .1 in
-    c .atom-holds .ensures
-    ∙ sym (value-atom (a .table) (a .rows .now) (a .work .now) (a .at) (a .levels) (a .values) some _ _ told)
+    let told = c .before .before in let seen = told .before .before in
+    let a = begun t seen .args in
+    value-atom (a .table) (a .rows .now) (a .work .now) (a .at) (a .levels) (a .values) (levelled t seen .if1 .left) _ (seen .kind-of .ensures) _ _ (told .predicate .given .1) _ (c .atom-holds .ensures)
 
 evaluate-returns-5 : (t : ℕ) → evaluate-lts.Need-returns-5 (evaluate-calls t) (evaluate-at t) evaluate.Post
 evaluate-returns-5 t c =
-    let kind-of = c .before .before .before .kind-of in
-    let if1 = c .before .before .before .before .before .before .if1 in
-    let a = c .before .before .before .before .before .before .before .before .before .args in
-    let some = if1 .left in
-    let told = sym (kind-of .ensures) ∙ c .before .enum-told .given .1 in
-    c .equal-holds .ensures
-    ∙ sym (value-equal (a .table) (a .rows .now) (a .work .now) (a .at) (a .levels) (a .values) some told)
+    let told = c .before in let seen = told .before .before in
+    let a = begun t seen .args in
+    value-equal (a .table) (a .rows .now) (a .work .now) (a .at) (a .levels) (a .values) (levelled t seen .if1 .left) _ (seen .kind-of .ensures) (told .enum-told .given .1) _ (c .equal-holds .ensures)
 
 evaluate-returns-6 : (t : ℕ) → evaluate-lts.Need-returns-6 (evaluate-calls t) (evaluate-at t) evaluate.Post
 evaluate-returns-6 t c =
-    let kind-of = c .before .before .before .before .kind-of in
-    let if1 = c .before .before .before .before .before .before .before .if1 in
-    let a = c .before .before .before .before .before .before .before .before .before .before .args in
-    let some = if1 .left in
-    let told = sym (kind-of .ensures) ∙ c .before .before .sign .given .1 in
-    c .connective-holds .ensures
-    ∙ sym (value-connective (a .table) (a .rows .now) (a .work .now) (a .at) (a .levels) (a .values) some _ _ told)
+    let told = c .before .before in let seen = told .before .before in
+    let a = begun t seen .args in
+    value-connective (a .table) (a .rows .now) (a .work .now) (a .at) (a .levels) (a .values) (levelled t seen .if1 .left) _ (seen .kind-of .ensures) _ _ (told .sign .given .1) _ (c .connective-holds .ensures)
 
 evaluate-returns-7 : (t : ℕ) → evaluate-lts.Need-returns-7 (evaluate-calls t) (evaluate-at t) evaluate.Post
 evaluate-returns-7 t c =
-    let kind-of = c .before .before .before .before .kind-of in
-    let if1 = c .before .before .before .before .before .before .before .if1 in
-    let a = c .before .before .before .before .before .before .before .before .before .before .args in
-    let some = if1 .left in
-    let told = sym (kind-of .ensures) ∙ c .before .before .every .given .1 in
-    c .each-holds .ensures
-    ∙ sym (value-quantifier (a .table) (a .rows .now) (a .work .now) (a .at) (a .levels) (a .values) some _ _ (search needs) told)
+    let told = c .before .before in let seen = told .before .before in
+    let a = begun t seen .args in
+    value-quantifier (a .table) (a .rows .now) (a .work .now) (a .at) (a .levels) (a .values) (levelled t seen .if1 .left) _ (seen .kind-of .ensures) _ _ (told .every .given .1) (values-long t (begun t seen)) _ (c .each-holds .ensures)
 
 evaluate-returns-8 : (t : ℕ) → evaluate-lts.Need-returns-8 (evaluate-calls t) (evaluate-at t) evaluate.Post
 evaluate-returns-8 t c =
-    let if1 = c .before .before .before .before .before .if1 in
-    let a = c .before .before .before .before .before .before .before .before .args in
-    let some = if1 .left in
-    let told = sym (c .before .before .kind-of .ensures) ∙ c .enum-told2 .given .1 in
-    value-term (a .table) (a .rows .now) (a .work .now) (a .at) (a .levels) (a .values) some told
+    let seen = c .before .before in let a = begun t seen .args in
+    value-term (a .table) (a .rows .now) (a .work .now) (a .at) (a .levels) (a .values) (levelled t seen .if1 .left) _ (seen .kind-of .ensures) (c .enum-told2 .given .1)
 
 pair-holds-returns : (t : ℕ) → pair-holds-lts.Need-returns (pair-holds-calls t) (pair-holds-at t) pair-holds.Post
 pair-holds-returns t c =
-    let part-holds-told = c .before .before .before .part-holds in
-    let a = c .before .before .before .before .before .before .args in
-    let truths = truthsAt (a .table) (a .rows .now) (a .levels) (a .values) (a .parts) (drop (a .at) (a .work .now)) in
-    c .connected .ensures ∙ connect-settled (a .sign) _ _ _ (sym (c .before .before .first-settles .ensures) ∙ c .before .if1 .taken)
-    ∙ ap (λ (b : Bool). connect (connectiveOf (a .sign)) (b ∷ getD truths 1 false ∷ [])) (part-holds-told .ensures)
+    let settled = c .before .before in let a = settled .before .before .before .before .args in
+    two-settled (a .sign) (truthsAt (a .table) (a .rows .now) (a .levels) (a .values) (a .parts) (drop (a .at) (a .work .now))) _ (settled .before .part-holds .ensures) _ (settled .first-settles .ensures) (c .before .if1 .taken) _ _ (c .connected .ensures)
 
 pair-holds-returns-2 : (t : ℕ) → pair-holds-lts.Need-returns-2 (pair-holds-calls t) (pair-holds-at t) pair-holds.Post
 pair-holds-returns-2 t c =
-    let part-holds-told = c .before .before .before .before .part-holds in
-    let a = c .before .before .before .before .before .before .before .args in
-    c .connected2 .ensures ∙ ap₂ (λ (b d : Bool). connect (connectiveOf (a .sign)) (b ∷ d ∷ [])) (part-holds-told .ensures) (c .before .part-holds2 .ensures)
+    let held = c .before .before .before .before in let a = held .before .before .before .args in
+    two-both (a .sign) (truthsAt (a .table) (a .rows .now) (a .levels) (a .values) (a .parts) (drop (a .at) (a .work .now))) _ (held .part-holds .ensures) _ (c .before .part-holds2 .ensures) _ (c .connected2 .ensures)
 
 part-holds-returns : (t : ℕ) → part-holds-lts.Need-returns (part-holds-calls t) (part-holds-at t) part-holds.Post
 part-holds-returns t c =
     let a = c .before .before .before .args in
     part-none (a .table) (a .rows .now) (a .levels) (a .values) (a .work .now) (a .at) (a .i) (a .parts) (c .if1 .taken)
 
-part-holds-evaluate-requires : (t : ℕ) → part-holds-lts.Need-evaluate-requires (part-holds-calls t) (part-holds-at t) part-holds.Post
-part-holds-evaluate-requires t c κs = (omega arith, (c .past .ensures .1, omega arith, omega arith))
-
 part-holds-returns-2 : (t : ℕ) → part-holds-lts.Need-returns-2 (part-holds-calls t) (part-holds-at t) part-holds.Post
 part-holds-returns-2 t c =
-    let a = c .before .before .before .before .before .args in
-    let place = c .before .past .ensures .0 in
-    part-value (a .table) (a .rows .now) (a .levels) (a .values) (a .work .now) (a .at) (a .i) (a .parts) _ _ (c .before .before .if1 .left) place (c .evaluate .ensures)
+    let some = c .before .before in let a = some .before .before .before .args in
+    part-value (a .table) (a .rows .now) (a .levels) (a .values) (a .work .now) (a .at) (a .i) (a .parts) _ _ (some .if1 .left) (c .before .past .ensures .0) (c .evaluate .ensures)
 
 abbrev parts-hold-Inv-loop : parts-hold-lts.InvT-loop
 parts-hold-Inv-loop work at levels every parts values table rows i₀ pending₀ i pending =
@@ -350,36 +314,26 @@ parts-hold-Inv-loop work at levels every parts values table rows i₀ pending₀
 abbrev parts-hold-μ-loop : parts-hold-lts.MeasureT-loop
 parts-hold-μ-loop work at levels every parts values table rows i₀ pending₀ i pending = pending
 
-parts-hold-loop-holds : (t : ℕ) → parts-hold-lts.Need-loop-holds (parts-hold-calls t) (parts-hold-at t) parts-hold.Post parts-hold-Inv-loop parts-hold-μ-loop
-parts-hold-loop-holds t c = (omega arith, refl)
-
 parts-hold-returns : (t : ℕ) → parts-hold-lts.Need-returns (parts-hold-calls t) (parts-hold-at t) parts-hold.Post parts-hold-Inv-loop parts-hold-μ-loop
 parts-hold-returns t c =
-    let loop = c .before .before .before .before .loop in
-    let a = c .before .before .before .before .before .before .before .args in
-    let l = loop in
-    let is = c .before .before .evaluate .ensures in
-    let settled = sym (c .before .settles .ensures) ∙ c .if1 .taken in
-    sym (l .inv .1 ∙ parts-settled (a .table) (a .rows .now) (a .levels) (a .values) (a .work .now) (l .i) (l .pending) (a .every) _ (omega arith) is settled)
+    let held = c .before .before in let top = held .before .before in
+    let a = top .before .before .before .args in
+    let l = top .loop in
+    parts-settled (a .table) (a .rows .now) (a .levels) (a .values) (a .work .now) (l .i) (l .pending) (a .every) _ (l .inv .1) _ (omega arith) (held .evaluate .ensures) _ (c .before .settles .ensures) (c .if1 .taken)
 
 parts-hold-loop-again : (t : ℕ) → parts-hold-lts.Need-loop-again (parts-hold-calls t) (parts-hold-at t) parts-hold.Post parts-hold-Inv-loop parts-hold-μ-loop
 parts-hold-loop-again t c =
-    let evaluate-told = c .before .before .before .evaluate in
-    let loop = c .before .before .before .before .before .loop in
-    let a = c .before .before .before .before .before .before .before .before .args in
-    let l = loop in
-    let is = evaluate-told .ensures in
-    let unsettled = sym (c .before .before .settles .ensures) ∙ c .before .if1 .left in
-    let next = c .past .ensures in (
-      next .1,
-      l .inv .1 ∙ parts-open (a .table) (a .rows .now) (a .levels) (a .values) (a .work .now) (l .i) (l .pending) (a .every) _ (omega arith) is _ unsettled (next .0),
-    )
+    let held = c .before .before .before in let top = held .before .before in
+    let a = top .before .before .before .args in
+    let l = top .loop in
+    let next = c .past .ensures in
+    (next .1, parts-open (a .table) (a .rows .now) (a .levels) (a .values) (a .work .now) (l .i) (l .pending) (a .every) _ (l .inv .1) _ (omega arith) (held .evaluate .ensures) _ (c .before .before .settles .ensures) _ (c .before .if1 .left) (next .0))
 
 parts-hold-returns-2 : (t : ℕ) → parts-hold-lts.Need-returns-2 (parts-hold-calls t) (parts-hold-at t) parts-hold.Post parts-hold-Inv-loop parts-hold-μ-loop
 parts-hold-returns-2 t c =
     let a = c .before .before .before .before .args in
     let l = c .before .loop in
-    sym (l .inv .1 ∙ parts-end (a .table) (a .rows .now) (a .levels) (a .values) (a .work .now) (l .i) (l .pending) (a .every) (omega arith))
+    parts-end (a .table) (a .rows .now) (a .levels) (a .values) (a .work .now) (l .i) (l .pending) (a .every) _ (l .inv .1) (omega arith)
 
 pub +connective-holds+each-holds+element-holds+evaluate+pair-holds+part-holds+parts-hold-spec :
     {M : Type 1} → statement M
@@ -415,7 +369,7 @@ pub +connective-holds+each-holds+element-holds+evaluate+pair-holds+part-holds+pa
     each-holds.Post
     each-holds-Inv-loop
     each-holds-μ-loop
-    (each-holds-loop-holds t)
+    (λ c. (omega arith, omega arith, refl))
     (λ c κs. search needs)
     (λ c κs. search needs)
     (λ c κs. search needs)
@@ -431,7 +385,7 @@ pub +connective-holds+each-holds+element-holds+evaluate+pair-holds+part-holds+pa
     (λ c κs. search needs)
     (element-holds-returns t)
     (λ c κs. search needs)
-    (element-holds-evaluate-requires-2 t)
+    (λ c κs. (omega arith, (c .past .ensures .1, omega arith, omega arith)))
     (element-holds-returns-2 t))
     (λ t. evaluate-lts.spec (evaluate-calls t)
     (evaluate-at t)
@@ -477,14 +431,14 @@ pub +connective-holds+each-holds+element-holds+evaluate+pair-holds+part-holds+pa
     part-holds.Post
     (part-holds-returns t)
     (λ c κs. search needs)
-    (part-holds-evaluate-requires t)
+    (λ c κs. (omega arith, (c .past .ensures .1, omega arith, omega arith)))
     (part-holds-returns-2 t))
     λ t. parts-hold-lts.spec (parts-hold-calls t)
     (parts-hold-at t)
     parts-hold.Post
     parts-hold-Inv-loop
     parts-hold-μ-loop
-    (parts-hold-loop-holds t)
+    (λ c. (omega arith, refl))
     (λ c κs. search needs)
     (λ c κs. search needs)
     (parts-hold-returns t)

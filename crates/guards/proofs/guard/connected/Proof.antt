@@ -6,22 +6,10 @@ use Rattle.guards.proofs.memory.Values.{impliedBy-true, impliedBy-false
 use Rattle.guards.proofs.guard.connected.Statement.{statement}
 use Rattle.guards.proofs.guard.connected.Tie as tie
 
-returns-2 : tie.Need-returns-2
-returns-2 c = impliedBy-true _ _ _ (c .before .enum-told3 .given .1) (c .if2 .taken)
-
-returns-3 : tie.Need-returns-3
-returns-3 c = equivalent-true _ _ _ (c .before .enum-told4 .given .1) (c .if3 .taken)
-
 returns-4 : tie.Need-returns-4
 returns-4 c =
     let sign = c .before .before .before .sign in
     junction-settled _ _ _ _ (sign .given .1) (sym (c .before .settles .ensures) ∙ c .if4 .taken)
-
-returns-7 : tie.Need-returns-7
-returns-7 c = impliedBy-false _ _ _ (c .before .enum-told3 .given .1) (c .if2 .left)
-
-returns-8 : tie.Need-returns-8
-returns-8 c = equivalent-false _ _ _ (c .before .enum-told4 .given .1) (c .if3 .left)
 
 returns-9 : tie.Need-returns-9
 returns-9 c =
@@ -36,14 +24,14 @@ connected-spec =
     (λ c. search needs)
     (λ c. search needs)
     (λ c. search needs)
-    returns-2
+    (λ c. impliedBy-true _ _ _ (c .before .enum-told3 .given .1) (c .if2 .taken))
     (λ c. search needs)
-    returns-3
+    (λ c. equivalent-true _ _ _ (c .before .enum-told4 .given .1) (c .if3 .taken))
     (λ c. search needs)
     (λ c κs. search needs)
     returns-4
     (λ c. search needs)
     (λ c. search needs)
-    returns-7
-    returns-8
+    (λ c. impliedBy-false _ _ _ (c .before .enum-told3 .given .1) (c .if2 .left))
+    (λ c. equivalent-false _ _ _ (c .before .enum-told4 .given .1) (c .if3 .left))
     returns-9)

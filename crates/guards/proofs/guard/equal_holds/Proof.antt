@@ -12,10 +12,9 @@ use Rattle.guards.proofs.guard.equal_holds.Tie as tie
 
 returns : tie.Need-returns
 returns c =
-    let peek = c .before .before .before .peek in
-    let a = c .before .before .before .before .before .args in
-    let value : ℕ → ℕ = λ w. valueOf (valued (a .values)) (termOf indexName w) in
-    ap₂ eqb (c .before .before .value-of .ensures .0 ∙ ap value (peek .ensures)) (c .value-of2 .ensures .0 ∙ ap value (c .before .peek2 .ensures))
+    let value-of-done = c .before .before in let peeked = value-of-done .before in
+    let value : ℕ → ℕ = λ w. valueOf (valued (peeked .before .before .args .values)) (termOf indexName w) in
+    ap₂ eqb (value-of-done .value-of .ensures .0 ∙ ap value (peeked .peek .ensures)) (c .value-of2 .ensures .0 ∙ ap value (c .before .peek2 .ensures))
 
 pub equal-holds-spec : {M : Type 1} → statement M
 equal-holds-spec =

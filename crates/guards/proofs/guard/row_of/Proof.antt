@@ -18,31 +18,28 @@ returns c =
 
 returns-2 : tie.Need-returns-2
 returns-2 c =
-    let a = c .before .before .before .before .before .args in
+    let peeked = c .before .before in let a = peeked .before .before .before .args in
     let value : ℕ → ℕ = λ w. valueOf (valued (a .values)) (termOf indexName w) in
-    let first = c .before .value-of .ensures .0 ∙ ap value (c .before .before .peek .ensures) in
+    let first = c .before .value-of .ensures .0 ∙ ap value (peeked .peek .ensures) in
     first ∙ row-one (a .work .now) (a .at) (a .values) ∙ ap (rowNumber (a .work .now) (a .at) (a .values)) (sym (c .if2 .taken))
 
 returns-3 : tie.Need-returns-3
 returns-3 c =
-    let value-of = c .before .before .before .before .value-of in
-    let peek = c .before .before .before .before .before .peek in
-    let a = c .before .before .before .before .before .before .before .before .args in
+    let later = c .before .before in let earlier = later .before .before in
+    let peeked = earlier .before in let a = peeked .before .before .before .args in
     let value : ℕ → ℕ = λ w. valueOf (valued (a .values)) (termOf indexName w) in
-    let first = value-of .ensures .0 ∙ ap value (peek .ensures) in
-    let second = c .before .value-of2 .ensures .0 ∙ ap value (c .before .before .peek2 .ensures) in
+    let first = earlier .value-of .ensures .0 ∙ ap value (peeked .peek .ensures) in
+    let second = c .before .value-of2 .ensures .0 ∙ ap value (later .peek2 .ensures) in
     rw (first, second) (row-two (a .work .now) (a .at) (a .values) ∙ ap (rowNumber (a .work .now) (a .at) (a .values)) (sym (c .if3 .taken)))
 
 returns-4 : tie.Need-returns-4
 returns-4 c =
-    let value-of2 = c .before .before .before .value-of2 in
-    let peek2 = c .before .before .before .before .peek2 in
-    let value-of = c .before .before .before .before .before .before .value-of in
-    let peek = c .before .before .before .before .before .before .before .peek in
-    let a = c .before .before .before .before .before .before .before .before .before .before .args in
+    let both = c .before .before .before in let later = both .before in
+    let earlier = later .before .before in let peeked = earlier .before in
+    let a = peeked .before .before .before .args in
     let value : ℕ → ℕ = λ w. valueOf (valued (a .values)) (termOf indexName w) in
-    let first = value-of .ensures .0 ∙ ap value (peek .ensures) in
-    let second = value-of2 .ensures .0 ∙ ap value (peek2 .ensures) in
+    let first = earlier .value-of .ensures .0 ∙ ap value (peeked .peek .ensures) in
+    let second = both .value-of2 .ensures .0 ∙ ap value (later .peek2 .ensures) in
     let third = c .value-of3 .ensures .0 ∙ ap value (c .before .peek3 .ensures) in
     let e : 3 ≡ a .terms % 4 = omega arith in
     rw (first, second, third) (row-three (a .work .now) (a .at) (a .values) ∙ ap (rowNumber (a .work .now) (a .at) (a .values)) e)

@@ -4,9 +4,7 @@
 use borrow.Author.Needs.{needs}
 use native.Mathlib.Omega.{arith}
 use Prim.Native.Nat.{ℕ, _+_, _-_, _≤_, ℕ, _<_}
-use mathlib.Core.Path.{_≡_, refl, sym, ap, _∙_}
-use mathlib.Core.List.{List}
-use mathlib.Core.Bool.{Bool}
+use mathlib.Core.Path.{_≡_, refl}
 use lib.ListN.{length, drop}
 use borrow.Author.Tests.{not-true, not-false}
 use Rattle.guards.specs.memory.Flags.{allClosedAt}
@@ -60,10 +58,17 @@ closed-at-calls t = (kind-of-reads.Asked, kind-of-reads.Learnt, terms-closed-rea
 abbrev parts-closed-calls : ℕ → parts-closed-lts.Claims
 parts-closed-calls t = (closed-at-below t, closed-at.Post, past-reads.Asked, past-reads.Learnt)
 
-closed-at-returns : (t : ℕ) → closed-at-lts.Need-returns (closed-at-calls t) (closed-at-at t) closed-at.Post
-closed-at-returns t c =
-    let a = c .before .before .args in
-    closed-no-level (a .levels) (a .flags) (drop (a .at) (a .work .now)) (c .if1 .taken)
+-- the kind of the word
+module _ (t : ℕ) (seen : closed-at-lts.After-kind-of (closed-at-calls t) (closed-at-at t) closed-at.Post) where
+  abbrev levelled : closed-at-lts.Else1 (closed-at-calls t) (closed-at-at t) closed-at.Post
+  levelled = seen .before .before .before
+
+  abbrev begun : closed-at-lts.Start (closed-at-calls t) (closed-at-at t) closed-at.Post
+  begun = levelled .before .before
+
+-- a flag for each variable
+flags-long : (t : ℕ) (start : closed-at-lts.Start (closed-at-calls t) (closed-at-at t) closed-at.Post) → length (start .args .flags) ≡ 64
+flags-long t start = search needs
 
 closed-at-returns-2 : (t : ℕ) → closed-at-lts.Need-returns-2 (closed-at-calls t) (closed-at-at t) closed-at.Post
 closed-at-returns-2 t c =
@@ -72,57 +77,37 @@ closed-at-returns-2 t c =
 
 closed-at-returns-3 : (t : ℕ) → closed-at-lts.Need-returns-3 (closed-at-calls t) (closed-at-at t) closed-at.Post
 closed-at-returns-3 t c =
-    let if1 = c .before .before .before .before .before .if1 in
-    let a = c .before .before .before .before .before .before .before .args in
-    let some = if1 .left in
-    let told = sym (c .before .before .kind-of .ensures) ∙ c .enum-told .given .1 in
-    closed-truth (a .work .now) (a .at) (a .levels) (a .flags) some _ told
+    let seen = c .before .before in let a = begun t seen .args in
+    closed-truth (a .work .now) (a .at) (a .levels) (a .flags) (levelled t seen .if1 .left) _ (seen .kind-of .ensures) _ (c .enum-told .given .1)
 
 closed-at-returns-4 : (t : ℕ) → closed-at-lts.Need-returns-4 (closed-at-calls t) (closed-at-at t) closed-at.Post
 closed-at-returns-4 t c =
-    let kind-of = c .before .before .before .before .kind-of in
-    let if1 = c .before .before .before .before .before .before .before .if1 in
-    let a = c .before .before .before .before .before .before .before .before .before .args in
-    let some = if1 .left in
-    let told = sym (kind-of .ensures) ∙ c .before .before .terms .given .1 in
-    c .terms-closed .ensures ∙ sym (closed-atom (a .work .now) (a .at) (a .levels) (a .flags) some _ _ told)
+    let told = c .before .before in let seen = told .before .before in
+    let a = begun t seen .args in
+    closed-atom (a .work .now) (a .at) (a .levels) (a .flags) (levelled t seen .if1 .left) _ (seen .kind-of .ensures) _ _ (told .terms .given .1) _ (c .terms-closed .ensures)
 
 closed-at-returns-5 : (t : ℕ) → closed-at-lts.Need-returns-5 (closed-at-calls t) (closed-at-at t) closed-at.Post
 closed-at-returns-5 t c =
-    let kind-of = c .before .before .before .kind-of in
-    let if1 = c .before .before .before .before .before .before .if1 in
-    let a = c .before .before .before .before .before .before .before .before .args in
-    let some = if1 .left in
-    let told = sym (kind-of .ensures) ∙ c .before .enum-told2 .given .1 in
-    c .terms-closed2 .ensures ∙ sym (closed-equal (a .work .now) (a .at) (a .levels) (a .flags) some told)
+    let told = c .before in let seen = told .before .before in
+    let a = begun t seen .args in
+    closed-equal (a .work .now) (a .at) (a .levels) (a .flags) (levelled t seen .if1 .left) _ (seen .kind-of .ensures) (told .enum-told2 .given .1) _ (c .terms-closed2 .ensures)
 
 closed-at-returns-6 : (t : ℕ) → closed-at-lts.Need-returns-6 (closed-at-calls t) (closed-at-at t) closed-at.Post
 closed-at-returns-6 t c =
-    let kind-of = c .before .before .before .before .kind-of in
-    let if1 = c .before .before .before .before .before .before .before .if1 in
-    let a = c .before .before .before .before .before .before .before .before .before .args in
-    let some = if1 .left in
-    let told = sym (kind-of .ensures) ∙ c .before .before .parts .given .1 in
-    c .parts-closed .ensures ∙ sym (closed-connective (a .work .now) (a .at) (a .levels) (a .flags) some _ _ told)
+    let told = c .before .before in let seen = told .before .before in
+    let a = begun t seen .args in
+    closed-connective (a .work .now) (a .at) (a .levels) (a .flags) (levelled t seen .if1 .left) _ (seen .kind-of .ensures) _ _ (told .parts .given .1) _ (c .parts-closed .ensures)
 
 closed-at-returns-7 : (t : ℕ) → closed-at-lts.Need-returns-7 (closed-at-calls t) (closed-at-at t) closed-at.Post
 closed-at-returns-7 t c =
-    let variable = c .before .before .before .variable in
-    let kind-of = c .before .before .before .before .before .kind-of in
-    let if1 = c .before .before .before .before .before .before .before .before .if1 in
-    let a = c .before .before .before .before .before .before .before .before .before .before .args in
-    let some = if1 .left in
-    let told = sym (kind-of .ensures) ∙ variable .given .1 in
-    c .parts-closed2 .ensures ∙ ap (λ (m : List Bool). allClosedAt (a .levels - 1) m 2 (drop (a .at + 1) (a .work .now))) (c .before .with-flag .ensures)
-    ∙ sym (closed-quantifier (a .work .now) (a .at) (a .levels) (a .flags) some _ _ (search needs) told)
+    let told = c .before .before .before in let seen = told .before .before in
+    let a = begun t seen .args in
+    closed-quantifier (a .work .now) (a .at) (a .levels) (a .flags) (levelled t seen .if1 .left) _ (seen .kind-of .ensures) _ _ (told .variable .given .1) (flags-long t (begun t seen)) _ (c .before .with-flag .ensures) _ (c .parts-closed2 .ensures)
 
 closed-at-returns-8 : (t : ℕ) → closed-at-lts.Need-returns-8 (closed-at-calls t) (closed-at-at t) closed-at.Post
 closed-at-returns-8 t c =
-    let if1 = c .before .before .before .before .before .if1 in
-    let a = c .before .before .before .before .before .before .before .args in
-    let some = if1 .left in
-    let told = sym (c .before .before .kind-of .ensures) ∙ c .enum-told3 .given .1 in
-    closed-term (a .work .now) (a .at) (a .levels) (a .flags) some told
+    let seen = c .before .before in let a = begun t seen .args in
+    closed-term (a .work .now) (a .at) (a .levels) (a .flags) (levelled t seen .if1 .left) _ (seen .kind-of .ensures) (c .enum-told3 .given .1)
 
 abbrev parts-closed-Inv-loop : parts-closed-lts.InvT-loop
 parts-closed-Inv-loop work at levels count flags i₀ pending₀ i pending =
@@ -131,40 +116,31 @@ parts-closed-Inv-loop work at levels count flags i₀ pending₀ i pending =
 abbrev parts-closed-μ-loop : parts-closed-lts.MeasureT-loop
 parts-closed-μ-loop work at levels count flags i₀ pending₀ i pending = pending
 
-parts-closed-loop-holds : (t : ℕ) → parts-closed-lts.Need-loop-holds (parts-closed-calls t) (parts-closed-at t) parts-closed.Post parts-closed-Inv-loop parts-closed-μ-loop
-parts-closed-loop-holds t c = (omega arith, refl)
-
 parts-closed-returns : (t : ℕ) → parts-closed-lts.Need-returns (parts-closed-calls t) (parts-closed-at t) parts-closed.Post parts-closed-Inv-loop parts-closed-μ-loop
 parts-closed-returns t c =
-    let loop = c .before .before .before .loop in
-    let a = c .before .before .before .before .before .args in
-    let l = loop in
-    let free = sym (c .before .closed-at .ensures) ∙ not-true _ (c .if1 .taken) in
-    sym (l .inv .1 ∙ allClosed-stop (a .work .now) (l .i) (l .pending) (a .flags) (omega arith) (a .levels) free)
+    let top = c .before .before .before in let a = top .before .before .args in
+    let l = top .loop in
+    allClosed-stop (a .work .now) (l .i) (l .pending) (a .flags) (omega arith) (a .levels) _ (l .inv .1) _ (c .before .closed-at .ensures) (not-true _ (c .if1 .taken))
 
 parts-closed-loop-again : (t : ℕ) → parts-closed-lts.Need-loop-again (parts-closed-calls t) (parts-closed-at t) parts-closed.Post parts-closed-Inv-loop parts-closed-μ-loop
 parts-closed-loop-again t c =
-    let loop = c .before .before .before .before .loop in
-    let a = c .before .before .before .before .before .before .args in
-    let l = loop in
-    let shut = sym (c .before .before .closed-at .ensures) ∙ not-false _ (c .before .if1 .left) in
-    let next = c .past .ensures in (
-      next .1,
-      l .inv .1 ∙ allClosed-more (a .work .now) (l .i) (l .pending) (a .flags) (omega arith) (a .levels) shut
-          ∙ ap (λ (j : ℕ). allClosedAt (a .levels) (a .flags) (l .pending - 1) (drop j (a .work .now))) (sym (next .0)),
-    )
+    let read = c .before .before in let top = read .before .before in
+    let a = top .before .before .args in
+    let l = top .loop in
+    let next = c .past .ensures in
+    (next .1, allClosed-more (a .work .now) (l .i) (l .pending) (a .flags) (omega arith) (a .levels) _ (l .inv .1) _ (read .closed-at .ensures) (not-false _ (c .before .if1 .left)) _ (next .0))
 
 parts-closed-returns-2 : (t : ℕ) → parts-closed-lts.Need-returns-2 (parts-closed-calls t) (parts-closed-at t) parts-closed.Post parts-closed-Inv-loop parts-closed-μ-loop
 parts-closed-returns-2 t c =
     let a = c .before .before .before .args in
     let l = c .before .loop in
-    sym (l .inv .1 ∙ allClosed-none (a .levels) (l .pending) (a .flags) (drop (l .i) (a .work .now)) (omega arith))
+    allClosed-none (a .levels) (l .pending) (a .flags) (drop (l .i) (a .work .now)) _ (l .inv .1) (omega arith)
 
 pub +closed-at+parts-closed-spec : {M : Type 1} → statement M
 +closed-at+parts-closed-spec = close μ-closed-at μ-parts-closed (λ t. closed-at-lts.spec (closed-at-calls t)
     (closed-at-at t)
     closed-at.Post
-    (closed-at-returns t)
+    (λ c. let a = c .before .before .args in closed-no-level (a .levels) (a .flags) (drop (a .at) (a .work .now)) (c .if1 .taken))
     (closed-at-returns-2 t)
     (λ c. search needs)
     (λ c. search needs)
@@ -197,7 +173,7 @@ pub +closed-at+parts-closed-spec : {M : Type 1} → statement M
     parts-closed.Post
     parts-closed-Inv-loop
     parts-closed-μ-loop
-    (parts-closed-loop-holds t)
+    (λ c. (omega arith, refl))
     (λ c κs. search needs)
     (parts-closed-returns t)
     (λ c κs. search needs)

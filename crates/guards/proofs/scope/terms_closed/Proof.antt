@@ -20,23 +20,20 @@ Inv-loop work at count flags i₀ pending₀ i pending =
 abbrev μ-loop : tie.MeasureT-loop
 μ-loop work at count flags i₀ pending₀ i pending = pending
 
-loop-holds : tie.Need-loop-holds Inv-loop μ-loop
-loop-holds c = (omega arith, refl, refl)
-
 returns : tie.Need-returns Inv-loop μ-loop
 returns c =
-    let loop = c .before .before .before .before .loop in
-    let a = c .before .before .before .before .before .before .args in
-    let l = loop in
-    let e = ap (λ (w : ℕ). termClosed (flagged (a .flags)) (termOf indexName w)) (sym (c .before .before .peek .ensures)) ∙ sym (c .before .term-closed .ensures) in
+    let peeked = c .before .before in let turn = peeked .before .before in
+    let a = turn .before .before .args in
+    let l = turn .loop in
+    let e = ap (λ (w : ℕ). termClosed (flagged (a .flags)) (termOf indexName w)) (sym (peeked .peek .ensures)) ∙ sym (c .before .term-closed .ensures) in
     sym (l .inv .2 ∙ termsClosed-stop (a .work .now) (l .i) (l .pending) (a .flags) (omega arith) (e ∙ not-true _ (c .if1 .taken)))
 
 loop-again : tie.Need-loop-again Inv-loop μ-loop
 loop-again c =
-    let loop = c .before .before .before .before .loop in
-    let a = c .before .before .before .before .before .before .args in
-    let l = loop in
-    let e = ap (λ (w : ℕ). termClosed (flagged (a .flags)) (termOf indexName w)) (sym (c .before .before .peek .ensures)) ∙ sym (c .before .term-closed .ensures) in
+    let peeked = c .before .before in let turn = peeked .before .before in
+    let a = turn .before .before .args in
+    let l = turn .loop in
+    let e = ap (λ (w : ℕ). termClosed (flagged (a .flags)) (termOf indexName w)) (sym (peeked .peek .ensures)) ∙ sym (c .before .term-closed .ensures) in
     (omega arith, omega arith, l .inv .2 ∙ termsClosed-more (a .work .now) (l .i) (l .pending) (a .flags) (omega arith) (e ∙ not-false _ (c .if1 .left)))
 
 returns-2 : tie.Need-returns-2 Inv-loop μ-loop
@@ -51,7 +48,7 @@ terms-closed-spec =
     (tie.spec
     Inv-loop
     μ-loop
-    loop-holds
+    (λ c. (omega arith, refl, refl))
     (λ c κs. search needs)
     (λ c κs. search needs)
     returns
