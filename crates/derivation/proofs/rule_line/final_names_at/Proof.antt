@@ -10,17 +10,15 @@ use Rattle.derivation.proofs.rule_line.final_names_at.Tie as tie
 
 returns : tie.Need-returns
 returns c =
-    let word-end = c .before .before .before .word-end in
-    let a = c .before .before .before .before .before .before .args in
+    let sought = c .before .before .before in let a = sought .before .before .before .args in
     names-none
-    (subst (ToldWord (bytes "-") (a .text .now) (a .at)) (c .before .next .given .1) (word-end .ensures))
+    (subst (ToldWord (bytes "-") (a .text .now) (a .at)) (c .before .next .given .1) (sought .word-end .ensures))
 
 returns-2 : tie.Need-returns-2
 returns-2 c =
-    let word-end = c .before .before .before .word-end in
-    let a = c .before .before .before .before .before .before .args in
+    let sought = c .before .before .before in let a = sought .before .before .before .args in
     names-told (a .text .now) (a .at)
-    (subst (ToldWord (bytes "-") (a .text .now) (a .at)) (c .before .enum-told .given .1) (word-end .ensures)) (c .numbers-at .result) (c .numbers-at .ensures)
+    (subst (ToldWord (bytes "-") (a .text .now) (a .at)) (c .before .enum-told .given .1) (sought .word-end .ensures)) (c .numbers-at .result) (c .numbers-at .ensures)
 
 pub final-names-at-spec : {M : Type 1} → statement M
 final-names-at-spec =

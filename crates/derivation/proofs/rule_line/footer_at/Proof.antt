@@ -21,25 +21,17 @@ returns c =
     footer-refused
     (subst (ToldNumbers readFinalNames (a .text .now) (a .at)) (c .enum-told .given .1) (c .before .before .final-names-at .ensures))
 
-word-end-requires : tie.Need-word-end-requires
-word-end-requires c κs = listed (c .before .before) .found .within
-
 returns-2 : tie.Need-returns-2
 returns-2 c =
-    let before = c .before .before .before .before .before in
-    let names = c .before .before .before .before .before .names in
-    let a = c .before .before .before .before .before .before .before .before .before .args in
-    footer-open (listed (before))
-    (subst (ToldWord (bytes "\n") (a .text .now) (names .given .0 .1 .1 .0)) (c .enum-told2 .given .1) (c .before .before .word-end .ensures))
+    let sought = c .before .before in let listing = sought .before .before .before in
+    footer-open (listed listing)
+    (subst (ToldWord (bytes "\n") (listing .before .before .before .before .args .text .now) (listing .names .given .0 .1 .1 .0)) (c .enum-told2 .given .1) (sought .word-end .ensures))
 
 returns-3 : tie.Need-returns-3
 returns-3 c =
-    let word-end = c .before .before .before .word-end in
-    let before = c .before .before .before .before .before .before in
-    let names = c .before .before .before .before .before .before .names in
-    let a = c .before .before .before .before .before .before .before .before .before .before .args in
-    footer-found (listed (before))
-    (subst (ToldWord (bytes "\n") (a .text .now) (names .given .0 .1 .1 .0)) (c .before .end .given .1) (word-end .ensures))
+    let sought = c .before .before .before in let listing = sought .before .before .before in
+    footer-found (listed listing)
+    (subst (ToldWord (bytes "\n") (listing .before .before .before .before .args .text .now) (listing .names .given .0 .1 .1 .0)) (c .before .end .given .1) (sought .word-end .ensures))
 
 pub footer-at-spec : {M : Type 1} → statement M
 footer-at-spec =
@@ -50,7 +42,7 @@ footer-at-spec =
     (λ c. search needs)
     returns
     (λ c. search needs)
-    word-end-requires
+    (λ c κs. listed (c .before .before) .found .within)
     (λ c. search needs)
     (λ c. search needs)
     returns-2

@@ -30,29 +30,20 @@ final c =
     let a = c .before .before .before .before .args in
     subst (ToldKind (readLine (drop (a .at) (a .text .now))) (a .text .now) (a .at)) (c .next2 .given .1) (c .before .before .kind-at .ensures)
 
-position-line-at-requires : tie.Need-position-line-at-requires
-position-line-at-requires c κs = ending (c .before) .within
-
-split-at-requires : tie.Need-split-at-requires
-split-at-requires c κs = splitting (c .before) .within
-
-footer-at-requires : tie.Need-footer-at-requires
-footer-at-requires c κs = final (c .before) .within
-
 returns : tie.Need-returns
 returns c =
-    let a = c .before .before .before .before .before .before .args in
-    line-told (a .text .now) (a .at) (ending (c .before .before)) (c .position-line-at .result) (c .position-line-at .ensures)
+    let seen = c .before .before in let a = seen .before .before .before .before .args in
+    line-told (a .text .now) (a .at) (ending seen) (c .position-line-at .result) (c .position-line-at .ensures)
 
 returns-2 : tie.Need-returns-2
 returns-2 c =
-    let a = c .before .before .before .before .before .before .args in
-    line-told (a .text .now) (a .at) (splitting (c .before .before)) (c .split-at .result) (c .split-at .ensures)
+    let given = c .before .before in let a = given .before .before .before .before .args in
+    line-told (a .text .now) (a .at) (splitting given) (c .split-at .result) (c .split-at .ensures)
 
 returns-3 : tie.Need-returns-3
 returns-3 c =
-    let a = c .before .before .before .before .before .before .args in
-    line-told (a .text .now) (a .at) (final (c .before .before)) (c .footer-at .result) (c .footer-at .ensures)
+    let other = c .before .before in let a = other .before .before .before .before .args in
+    line-told (a .text .now) (a .at) (final other) (c .footer-at .result) (c .footer-at .ensures)
 
 returns-4 : tie.Need-returns-4
 returns-4 c =
@@ -65,11 +56,11 @@ line-at-spec =
     (tie.spec
     (λ c κs. search needs)
     (λ c. search needs)
-    position-line-at-requires
+    (λ c κs. ending (c .before) .within)
     (λ c. search needs)
-    split-at-requires
+    (λ c κs. splitting (c .before) .within)
     (λ c. search needs)
-    footer-at-requires
+    (λ c κs. final (c .before) .within)
     (λ c. search needs)
     returns
     returns-2

@@ -17,17 +17,13 @@ abbrev μ-loop : tie.MeasureT-loop
 μ-loop text at least greatest i₀ many₀ i many = length text - i
 
 found : (c : tie.After-next Inv-loop μ-loop)
-    → let a = c .before .before .before .before .before .args in
-    RangedFound (a .least) (a .greatest) (a .text .now) (c .before .before .before .loop .i) (c .next .given .0 .0) (c .next .given .0 .1 .0)
+    → let turn = c .before .before .before in
+    let a = turn .before .before .args in
+    RangedFound (a .least) (a .greatest) (a .text .now) (turn .loop .i) (c .next .given .0 .0) (c .next .given .0 .1 .0)
 found c =
-    let loop = c .before .before .before .loop in
-    let a = c .before .before .before .before .before .args in
-    subst (ToldRanged (a .least) (a .greatest) (a .text .now) (loop .i)) (c .next .given .1) (c .before .before .ranged-at .ensures)
-
-loop-holds : tie.Need-loop-holds Inv-loop μ-loop
-loop-holds c =
-    let a = c .before .args in
-    numbers-first (a .least) (a .greatest) (a .text .now) (a .at) (c .before .pre .0)
+    let ranged = c .before .before in let turn = ranged .before in
+    let a = turn .before .before .args in
+    subst (ToldRanged (a .least) (a .greatest) (a .text .now) (turn .loop .i)) (c .next .given .1) (ranged .ranged-at .ensures)
 
 add-many : tie.Need-add-many Inv-loop μ-loop
 add-many c =
@@ -36,34 +32,34 @@ add-many c =
 
 returns : tie.Need-returns Inv-loop μ-loop
 returns c =
-    let loop = c .before .before .before .before .before .before .loop in
-    let a = c .before .before .before .before .before .before .before .before .args in
+    let given = c .before .before .before in let turn = given .before .before .before in
+    let loop = turn .loop in
+    let a = turn .before .before .args in
     numbers-last (a .least) (a .greatest) (a .text .now) (a .at) (loop .i) (loop .many) (loop .inv) _ _
-    (found (c .before .before .before))
+    (found given)
     (λ e. c .if1 .taken (c .before .peek .ensures ∙ e))
-
-add-i : tie.Need-add-i Inv-loop μ-loop
-add-i c = let f = found (c .before .before .before) in omega (arith, f .found .within)
 
 loop-less : tie.Need-loop-less Inv-loop μ-loop
 loop-less c =
-    let loop = c .before .before .before .before .before .before .loop in
-    let f = found (c .before .before .before) in omega (arith, f .found .within, f .after, loop .inv .within)
+    let given = c .before .before .before in
+    let f = found given in omega (arith, f .found .within, f .after, given .before .before .before .loop .inv .within)
 
 loop-again : tie.Need-loop-again Inv-loop μ-loop
 loop-again c =
-    let loop = c .before .before .before .before .before .before .loop in
-    let a = c .before .before .before .before .before .before .before .before .args in
+    let given = c .before .before .before in let turn = given .before .before .before in
+    let loop = turn .loop in
+    let a = turn .before .before .args in
     numbers-on (a .least) (a .greatest) (a .text .now) (a .at) (loop .i) (loop .many) (loop .inv) _ _
-    (found (c .before .before .before))
+    (found given)
     (sym (c .before .peek .ensures) ∙ c .if1 .left)
 
 returns-2 : tie.Need-returns-2 Inv-loop μ-loop
 returns-2 c =
-    let loop = c .before .before .before .loop in
-    let a = c .before .before .before .before .before .args in
+    let ranged = c .before .before in let turn = ranged .before in
+    let loop = turn .loop in
+    let a = turn .before .before .args in
     numbers-refused (a .least) (a .greatest) (a .text .now) (a .at) (loop .i) (loop .many) (loop .inv)
-    (subst (ToldRanged (a .least) (a .greatest) (a .text .now) (loop .i)) (c .enum-told .given .1) (c .before .before .ranged-at .ensures))
+    (subst (ToldRanged (a .least) (a .greatest) (a .text .now) (loop .i)) (c .enum-told .given .1) (ranged .ranged-at .ensures))
 
 pub numbers-at-spec : {M : Type 1} → statement M
 numbers-at-spec =
@@ -71,13 +67,13 @@ numbers-at-spec =
     (tie.spec
     Inv-loop
     μ-loop
-    loop-holds
+    (λ c. let a = c .before .args in numbers-first (a .least) (a .greatest) (a .text .now) (a .at) (c .before .pre .0))
     (λ c κs. search needs)
     (λ c. search needs)
     add-many
     (λ c κs. search needs)
     returns
-    add-i
+    (λ c. let f = found (c .before .before .before) in omega (arith, f .found .within))
     loop-less
     loop-again
     (λ c. search needs)

@@ -21,25 +21,17 @@ returns c =
     position-unnamed
     (subst (ToldRanged 1 65535 (a .text .now) (a .at)) (c .enum-told .given .1) (c .before .before .ranged-at .ensures))
 
-path-at-requires : tie.Need-path-at-requires
-path-at-requires c κs = named (c .before) .found .within
-
 returns-2 : tie.Need-returns-2
 returns-2 c =
-    let before = c .before .before .before .before in
-    let name = c .before .before .before .before .name in
-    let a = c .before .before .before .before .before .before .before .before .args in
-    position-refused (named (before))
-    (subst (ToldNumbers readPath (a .text .now) (name .given .0 .1 .0)) (c .enum-told2 .given .1) (c .before .before .path-at .ensures))
+    let walked = c .before .before in let naming = walked .before .before in
+    position-refused (named naming)
+    (subst (ToldNumbers readPath (naming .before .before .before .before .args .text .now) (naming .name .given .0 .1 .0)) (c .enum-told2 .given .1) (walked .path-at .ensures))
 
 returns-3 : tie.Need-returns-3
 returns-3 c =
-    let path-at = c .before .before .before .path-at in
-    let before = c .before .before .before .before .before in
-    let name = c .before .before .before .before .before .name in
-    let a = c .before .before .before .before .before .before .before .before .before .args in
-    position-found (named (before))
-    (subst (ToldNumbers readPath (a .text .now) (name .given .0 .1 .0)) (c .before .path .given .1) (path-at .ensures))
+    let walked = c .before .before .before in let naming = walked .before .before in
+    position-found (named naming)
+    (subst (ToldNumbers readPath (naming .before .before .before .before .args .text .now) (naming .name .given .0 .1 .0)) (c .before .path .given .1) (walked .path-at .ensures))
 
 pub position-at-spec : {M : Type 1} → statement M
 position-at-spec =
@@ -49,7 +41,7 @@ position-at-spec =
     (λ c. search needs)
     (λ c. search needs)
     returns
-    path-at-requires
+    (λ c κs. named (c .before) .found .within)
     (λ c. search needs)
     (λ c. search needs)
     returns-2

@@ -21,24 +21,19 @@ returns c =
     last-refused (makeOf (a .kind))
     (subst (ToldPosition (a .text .now) (a .at)) (c .enum-told .given .1) (c .before .before .position-at .ensures))
 
-word-end-requires : tie.Need-word-end-requires
-word-end-requires c κs = position (c .before .before) .found .within
-
 returns-2 : tie.Need-returns-2
 returns-2 c =
-    let before = c .before .before .before .before .before in
-    let name = c .before .before .before .before .before .name in
-    let a = c .before .before .before .before .before .before .before .before .before .args in
-    last-open (makeOf (a .kind)) (position (before))
-    (subst (ToldWord (bytes "\n") (a .text .now) (name .given .0 .1 .1 .1 .0)) (c .enum-told2 .given .1) (c .before .before .word-end .ensures))
+    let sought = c .before .before in let named = sought .before .before .before in
+    let a = named .before .before .before .before .args in
+    last-open (makeOf (a .kind)) (position named)
+    (subst (ToldWord (bytes "\n") (a .text .now) (named .name .given .0 .1 .1 .1 .0)) (c .enum-told2 .given .1) (sought .word-end .ensures))
 
 returns-3 : tie.Need-returns-3
 returns-3 c =
-    let before = c .before .before .before .before .before .before in
-    let name = before .name in
-    let a = before .before .before .before .before .args in
-    last-found (makeOf (a .kind)) (position before)
-    (subst (ToldWord (bytes "\n") (a .text .now) (name .given .0 .1 .1 .1 .0)) (c .before .next .given .1) (c .before .before .before .word-end .ensures))
+    let sought = c .before .before .before in let named = sought .before .before .before in
+    let a = named .before .before .before .before .args in
+    last-found (makeOf (a .kind)) (position named)
+    (subst (ToldWord (bytes "\n") (a .text .now) (named .name .given .0 .1 .1 .1 .0)) (c .before .next .given .1) (sought .word-end .ensures))
 
 pub position-line-at-spec : {M : Type 1} → statement M
 position-line-at-spec =
@@ -49,7 +44,7 @@ position-line-at-spec =
     (λ c. search needs)
     returns
     (λ c. search needs)
-    word-end-requires
+    (λ c κs. position (c .before .before) .found .within)
     (λ c. search needs)
     (λ c. search needs)
     returns-2

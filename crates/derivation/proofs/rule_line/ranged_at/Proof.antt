@@ -16,18 +16,18 @@ small c =
 
 returns : tie.Need-returns
 returns c =
-    let a = c .before .before .before .before .before .before .args in
-    ranged-below (a .least) (a .greatest) (a .text .now) (a .at) (small (c .before .before)) (c .if1 .taken)
+    let given = c .before .before in let a = given .before .before .before .before .args in
+    ranged-below (a .least) (a .greatest) (a .text .now) (a .at) (small given) (c .if1 .taken)
 
 returns-2 : tie.Need-returns-2
 returns-2 c =
-    let a = c .before .before .before .before .before .before .before .args in
-    ranged-above (a .least) (a .greatest) (a .text .now) (a .at) (small (c .before .before .before)) (c .if2 .taken)
+    let given = c .before .before .before in let a = given .before .before .before .before .args in
+    ranged-above (a .least) (a .greatest) (a .text .now) (a .at) (small given) (c .if2 .taken)
 
 returns-3 : tie.Need-returns-3
 returns-3 c =
-    let a = c .before .before .before .before .before .before .before .args in
-    ranged-inside (a .least) (a .greatest) (a .text .now) (a .at) (small (c .before .before .before))
+    let given = c .before .before .before in let a = given .before .before .before .before .args in
+    ranged-inside (a .least) (a .greatest) (a .text .now) (a .at) (small given)
     (c .before .if1 .left) (c .if2 .left)
 
 returns-4 : tie.Need-returns-4
