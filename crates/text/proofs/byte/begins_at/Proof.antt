@@ -17,9 +17,6 @@ Inv-loop text at word i₀ i = (i ≤ length word) × (begins word (drop at text
 abbrev μ-loop : tie.MeasureT-loop
 μ-loop text at word i₀ i = length word - i
 
-loop-holds : tie.Need-loop-holds Inv-loop μ-loop
-loop-holds c = (omega arith, rw (add-zero (c .args .at)))
-
 returns : tie.Need-returns Inv-loop μ-loop
 returns c =
     let loop = c .before .before .loop in
@@ -28,18 +25,18 @@ returns c =
 
 returns-2 : tie.Need-returns-2 Inv-loop μ-loop
 returns-2 c =
-    let loop-test = c .before .before .before .before .loop-test in
-    let loop = c .before .before .before .before .before .loop in
-    let a = c .before .before .before .before .before .before .args in
-    sym (loop .inv .1 ∙ begins-other (a .text .now) (a .word .now) (a .at + loop .i) (loop .i) (omega arith) (loop-test .taken) (λ e. c .if2 .taken (sym e)))
+    let inside = c .before .before .before .before in let turn = inside .before in
+    let loop = turn .loop in
+    let a = turn .before .args in
+    sym (loop .inv .1 ∙ begins-other (a .text .now) (a .word .now) (a .at + loop .i) (loop .i) (omega arith) (inside .loop-test .taken) (λ e. c .if2 .taken (sym e)))
 
 loop-again : tie.Need-loop-again Inv-loop μ-loop
 loop-again c =
-    let loop-test = c .before .before .before .before .loop-test in
-    let loop = c .before .before .before .before .before .loop in
-    let a = c .before .before .before .before .before .before .args in
+    let inside = c .before .before .before .before in let turn = inside .before in
+    let loop = turn .loop in
+    let a = turn .before .args in
     let e : a .at + loop .i + 1 ≡ a .at + (loop .i + 1) = omega arith in
-    (omega arith, loop .inv .1 ∙ rw e at (begins-same (a .text .now) (a .word .now) (a .at + loop .i) (loop .i) (omega arith) (loop-test .taken) (sym (c .if2 .left))))
+    (omega arith, loop .inv .1 ∙ rw e at (begins-same (a .text .now) (a .word .now) (a .at + loop .i) (loop .i) (omega arith) (inside .loop-test .taken) (sym (c .if2 .left))))
 
 returns-3 : tie.Need-returns-3 Inv-loop μ-loop
 returns-3 c =
@@ -52,7 +49,7 @@ begins-at-spec =
     (tie.spec
     Inv-loop
     μ-loop
-    loop-holds
+    (λ c. (omega arith, rw (add-zero (c .args .at))))
     (λ c. search needs)
     returns
     (λ c. search needs)

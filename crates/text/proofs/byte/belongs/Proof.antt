@@ -27,10 +27,9 @@ returns-5 c =
 
 returns-6 : tie.Need-returns-6
 returns-6 c =
-    let if2 = c .before .before .before .if2 in
-    let is-capital = c .before .before .before .before .is-capital in
-    let enum-told3 = c .before .before .before .before .before .enum-told3 in
-    rw (enum-told3 .given .1, sym (is-capital .ensures) ∙ if2 .left, sym (c .before .before .is-small2 .ensures) ∙ c .before .if3 .left) (c .is-digit3 .ensures)
+    let second-small = c .before .before in let past-second = second-small .before in
+    let capital = past-second .before in
+    rw (capital .before .enum-told3 .given .1, sym (capital .is-capital .ensures) ∙ past-second .if2 .left, sym (second-small .is-small2 .ensures) ∙ c .before .if3 .left) (c .is-digit3 .ensures)
 
 returns-7 : tie.Need-returns-7
 returns-7 c = rw (c .before .enum-told4 .given .1) (c .is-printable .ensures)

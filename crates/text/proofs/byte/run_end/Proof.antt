@@ -18,23 +18,18 @@ Inv-loop text at class i₀ i = (i ≤ length text) × (at + length (span (inCla
 abbrev μ-loop : tie.MeasureT-loop
 μ-loop text at class i₀ i = length text - i
 
-loop-holds : tie.Need-loop-holds Inv-loop μ-loop
-loop-holds c = (omega arith, refl)
-
 returns : tie.Need-returns Inv-loop μ-loop
 returns c =
-    let loop-test = c .before .before .before .loop-test in
-    let loop = c .before .before .before .before .loop in
-    let a = c .before .before .before .before .before .before .args in
-    let z = ap length (span-stop (a .text .now) (loop .i) (loop-test .taken) (inClass (a .class)) (sym (c .before .belongs .ensures) ∙ not-true _ (c .if1 .taken))) in
+    let inside = c .before .before .before in let turn = inside .before in
+    let a = turn .before .before .args in
+    let z = ap length (span-stop (a .text .now) (turn .loop .i) (inside .loop-test .taken) (inClass (a .class)) (sym (c .before .belongs .ensures) ∙ not-true _ (c .if1 .taken))) in
     omega arith
 
 loop-again : tie.Need-loop-again Inv-loop μ-loop
 loop-again c =
-    let loop-test = c .before .before .before .loop-test in
-    let loop = c .before .before .before .before .loop in
-    let a = c .before .before .before .before .before .before .args in
-    let z = ap length (span-more (a .text .now) (loop .i) (loop-test .taken) (inClass (a .class)) (sym (c .before .belongs .ensures) ∙ not-false _ (c .if1 .left))) in
+    let inside = c .before .before .before in let turn = inside .before in
+    let a = turn .before .before .args in
+    let z = ap length (span-more (a .text .now) (turn .loop .i) (inside .loop-test .taken) (inClass (a .class)) (sym (c .before .belongs .ensures) ∙ not-false _ (c .if1 .left))) in
     omega arith
 
 returns-2 : tie.Need-returns-2 Inv-loop μ-loop
@@ -49,7 +44,7 @@ run-end-spec =
     (tie.spec
     Inv-loop
     μ-loop
-    loop-holds
+    (λ c. (omega arith, refl))
     (λ c. search needs)
     (λ c κs. search needs)
     returns

@@ -16,27 +16,19 @@ Inv-loop a b i₀ i = (i ≤ length a) × (same a b ≡ same (drop i a) (drop i 
 abbrev μ-loop : tie.MeasureT-loop
 μ-loop a b i₀ i = length a - i
 
-returns : tie.Need-returns Inv-loop μ-loop
-returns c =
-    let a = c .before .args in
-    sym (same-length (a .a .now) (a .b .now) (c .if1 .taken))
-
-loop-holds : tie.Need-loop-holds Inv-loop μ-loop
-loop-holds c = (omega arith, refl)
-
 returns-2 : tie.Need-returns-2 Inv-loop μ-loop
 returns-2 c =
-    let loop-test = c .before .before .before .loop-test in
-    let loop = c .before .before .before .before .loop in
-    let a = c .before .before .before .before .before .before .args in
-    sym (loop .inv .1 ∙ same-off (a .a .now) (a .b .now) (loop .i) (loop-test .taken) (omega arith) (c .if2 .taken))
+    let inside = c .before .before .before in let turn = inside .before in
+    let loop = turn .loop in
+    let a = turn .before .before .args in
+    sym (loop .inv .1 ∙ same-off (a .a .now) (a .b .now) (loop .i) (inside .loop-test .taken) (omega arith) (c .if2 .taken))
 
 loop-again : tie.Need-loop-again Inv-loop μ-loop
 loop-again c =
-    let loop-test = c .before .before .before .loop-test in
-    let loop = c .before .before .before .before .loop in
-    let a = c .before .before .before .before .before .before .args in
-    (omega arith, loop .inv .1 ∙ same-on (a .a .now) (a .b .now) (loop .i) (loop-test .taken) (omega arith) (c .if2 .left))
+    let inside = c .before .before .before in let turn = inside .before in
+    let loop = turn .loop in
+    let a = turn .before .before .args in
+    (omega arith, loop .inv .1 ∙ same-on (a .a .now) (a .b .now) (loop .i) (inside .loop-test .taken) (omega arith) (c .if2 .left))
 
 returns-3 : tie.Need-returns-3 Inv-loop μ-loop
 returns-3 c =
@@ -49,8 +41,8 @@ equal-spec =
     (tie.spec
     Inv-loop
     μ-loop
-    returns
-    loop-holds
+    (λ c. let a = c .before .args in sym (same-length (a .a .now) (a .b .now) (c .if1 .taken)))
+    (λ c. (omega arith, refl))
     (λ c. search needs)
     (λ c. search needs)
     returns-2

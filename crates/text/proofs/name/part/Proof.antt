@@ -5,21 +5,6 @@ use Rattle.text.proofs.Parts.{part-beyond, part-short, part-whole}
 use Rattle.text.proofs.name.part.Statement.{statement}
 use Rattle.text.proofs.name.part.Tie as tie
 
-returns : tie.Need-returns
-returns c =
-    let a = c .before .before .args in
-    part-beyond (a .text .now) (a .at) (a .size) (c .before .if1 .taken)
-
-returns-2 : tie.Need-returns-2
-returns-2 c =
-    let a = c .before .before .before .args in
-    part-short (a .text .now) (a .at) (a .size) (c .before .if2 .taken)
-
-returns-3 : tie.Need-returns-3
-returns-3 c =
-    let a = c .before .before .before .args in
-    part-whole (a .text .now) (a .at) (a .size)
-
 pub part-spec : {M : Type 1} → statement M
 part-spec =
     tie.close
@@ -27,14 +12,14 @@ part-spec =
     (λ c. search needs)
     (λ c. search needs)
     (λ c. search needs)
-    returns
+    (λ c. let a = c .before .before .args in part-beyond (a .text .now) (a .at) (a .size) (c .before .if1 .taken))
     (λ c. search needs)
     (λ c. search needs)
     (λ c. search needs)
     (λ c. search needs)
-    returns-2
+    (λ c. let a = c .before .before .before .args in part-short (a .text .now) (a .at) (a .size) (c .before .if2 .taken))
     (λ c. search needs)
     (λ c. search needs)
     (λ c. search needs)
     (λ c. search needs)
-    returns-3)
+    (λ c. let a = c .before .before .before .args in part-whole (a .text .now) (a .at) (a .size)))

@@ -17,17 +17,13 @@ Inv-loop text at value₀ i₀ value i = DigitsPassed text at value i
 abbrev μ-loop : tie.MeasureT-loop
 μ-loop text at value₀ i₀ value i = length text - i
 
-loop-holds : tie.Need-loop-holds Inv-loop μ-loop
-loop-holds c = digits-first (c .before .args .text .now) (c .before .args .at)
-
 returns : tie.Need-returns Inv-loop μ-loop
 returns c =
-    let loop-test = c .before .before .before .loop-test in
-    let loop = c .before .before .before .before .loop in
-    let start = c .before .before .before .before .before .before in
-    let text = start .args .text .now in
-    digits-stop text (start .args .at) _ _ (loop .inv)
-    (span-stop text (loop .i) (loop-test .taken) isDigit (sym (c .before .is-digit .ensures) ∙ not-true _ (c .if1 .taken)))
+    let inside = c .before .before .before in let turn = inside .before in
+    let begun = turn .before .before in let loop = turn .loop in
+    let text = begun .args .text .now in
+    digits-stop text (begun .args .at) _ _ (loop .inv)
+    (span-stop text (loop .i) (inside .loop-test .taken) isDigit (sym (c .before .is-digit .ensures) ∙ not-true _ (c .if1 .taken)))
 
 with-digit-requires : tie.Need-with-digit-requires Inv-loop μ-loop
 with-digit-requires c κs =
@@ -36,12 +32,12 @@ with-digit-requires c κs =
 
 loop-again : tie.Need-loop-again Inv-loop μ-loop
 loop-again c =
-    let loop-test = c .before .before .before .before .loop-test in
-    let loop = c .before .before .before .before .before .loop in
-    let start = c .before .before .before .before .before .before .before in
+    let digit = c .before .before in let inside = digit .before .before in
+    let turn = inside .before in let begun = turn .before .before in
+    let loop = turn .loop in
     rw (c .with-digit .ensures)
-    (digits-on (start .args .text .now) (start .args .at) (loop .value) (loop .i) (loop .inv) (loop-test .taken)
-    (sym (c .before .before .is-digit .ensures) ∙ not-false _ (c .before .if1 .left)))
+    (digits-on (begun .args .text .now) (begun .args .at) (loop .value) (loop .i) (loop .inv) (inside .loop-test .taken)
+    (sym (digit .is-digit .ensures) ∙ not-false _ (c .before .if1 .left)))
 
 returns-2 : tie.Need-returns-2 Inv-loop μ-loop
 returns-2 c =
@@ -55,7 +51,7 @@ digits-at-spec =
     (tie.spec
     Inv-loop
     μ-loop
-    loop-holds
+    (λ c. digits-first (c .before .args .text .now) (c .before .args .at))
     (λ c. search needs)
     (λ c κs. search needs)
     returns

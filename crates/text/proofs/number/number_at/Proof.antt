@@ -16,17 +16,17 @@ returns c =
 
 returns-2 : tie.Need-returns-2
 returns-2 c =
-    let digits-at = c .before .before .before .digits-at in
-    let start = c .before .before .before .before .before in
-    let a = start .args in
-    number-small (a .text .now) (a .at) (digits-at .result) (digits-at .ensures) (start .pre) (sym (c .before .before .well-spelled .ensures) ∙ not-false _ (c .before .if1 .left)) (c .if2 .taken)
+    let spelled = c .before .before in let counted = spelled .before in
+    let begun = counted .before .before in let digits-at = counted .digits-at in
+    let a = begun .args in
+    number-small (a .text .now) (a .at) (digits-at .result) (digits-at .ensures) (begun .pre) (sym (spelled .well-spelled .ensures) ∙ not-false _ (c .before .if1 .left)) (c .if2 .taken)
 
 returns-3 : tie.Need-returns-3
 returns-3 c =
-    let digits-at = c .before .before .before .digits-at in
-    let start = c .before .before .before .before .before in
-    let a = start .args in
-    number-large (a .text .now) (a .at) (digits-at .result) (digits-at .ensures) (start .pre) (sym (c .before .before .well-spelled .ensures) ∙ not-false _ (c .before .if1 .left)) (c .if2 .left)
+    let spelled = c .before .before in let counted = spelled .before in
+    let begun = counted .before .before in let digits-at = counted .digits-at in
+    let a = begun .args in
+    number-large (a .text .now) (a .at) (digits-at .result) (digits-at .ensures) (begun .pre) (sym (spelled .well-spelled .ensures) ∙ not-false _ (c .before .if1 .left)) (c .if2 .left)
 
 pub number-at-spec : {M : Type 1} → statement M
 number-at-spec =
