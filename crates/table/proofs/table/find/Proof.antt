@@ -27,30 +27,30 @@ loop-holds c =
 
 returns : tie.Need-returns Inv-loop μ-loop
 returns c =
-    let loop = c .before .before .before .before .loop in
-    let part = c .before .before .before .before .before .part in
-    let a = c .before .before .before .before .before .before .before .before .args in
+    let turn = c .before .before .before .before in let parted = turn .before in
+    let loop = turn .loop in
+    let a = parted .before .before .before .args in
     let l = loop .inv in
-    let z = position-here (part .result .now) (tableName (a .text .now) (a .table)) (loop .i) (a .table .count - loop .i) (omega arith) (sym (c .before .is-named .ensures) ∙ c .if2 .taken) in
+    let z = position-here (parted .part .result .now) (tableName (a .text .now) (a .table)) (loop .i) (a .table .count - loop .i) (omega arith) (sym (c .before .is-named .ensures) ∙ c .if2 .taken) in
     rw (← l .0, l .2, z) (sym (add-zero (loop .i)))
 
 loop-again : tie.Need-loop-again Inv-loop μ-loop
 loop-again c =
-    let loop = c .before .before .before .before .loop in
-    let part = c .before .before .before .before .before .part in
-    let a = c .before .before .before .before .before .before .before .before .args in
+    let turn = c .before .before .before .before in let parted = turn .before in
+    let loop = turn .loop in
+    let a = parted .before .before .before .args in
     let l = loop .inv in
     let e : a .table .count - loop .i - 1 ≡ a .table .count - (loop .i + 1) = omega arith in
-    let z = position-next (part .result .now) (tableName (a .text .now) (a .table)) (loop .i) (a .table .count - loop .i) (omega arith) (sym (c .before .is-named .ensures) ∙ c .if2 .left) in
+    let z = position-next (parted .part .result .now) (tableName (a .text .now) (a .table)) (loop .i) (a .table .count - loop .i) (omega arith) (sym (c .before .is-named .ensures) ∙ c .if2 .left) in
     (l .0, omega arith, l .2 ∙ rw z (rw e (omega arith)))
 
 returns-2 : tie.Need-returns-2 Inv-loop μ-loop
 returns-2 c =
-    let loop = c .before .before .loop in
-    let part = c .before .before .before .part in
-    let a = c .before .before .before .before .before .before .args in
+    let turn = c .before .before in let parted = turn .before in
+    let loop = turn .loop in
+    let a = parted .before .before .before .args in
     let l = loop .inv in
-    let z = position-none (part .result .now) (tableName (a .text .now) (a .table)) (loop .i) (a .table .count - loop .i) (omega arith) in
+    let z = position-none (parted .part .result .now) (tableName (a .text .now) (a .table)) (loop .i) (a .table .count - loop .i) (omega arith) in
     rw (← l .0, l .2, z) (sym (add-zero (loop .i)))
 
 pub find-spec : {M : Type 1} → statement M

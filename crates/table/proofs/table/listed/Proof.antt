@@ -15,9 +15,6 @@ Inv-loop rows first count key i₀ left₀ i left = among key (take count (drop 
 abbrev μ-loop : tie.MeasureT-loop
 μ-loop rows first count key i₀ left₀ i left = length rows - i
 
-loop-holds : tie.Need-loop-holds Inv-loop μ-loop
-loop-holds c = refl
-
 returns : tie.Need-returns Inv-loop μ-loop
 returns c =
     let loop = c .before .before .loop in
@@ -26,17 +23,17 @@ returns c =
 
 returns-2 : tie.Need-returns-2 Inv-loop μ-loop
 returns-2 c =
-    let loop-test = c .before .before .before .loop-test in
-    let loop = c .before .before .before .before .loop in
-    let a = c .before .before .before .before .before .args in
-    sym (loop .inv ∙ among-here (a .key) (a .rows .now) (loop .i) (loop .left) (loop-test .taken) (c .before .before .if1 .left) (c .if2 .taken))
+    let past-first = c .before .before in let inside = past-first .before in
+    let turn = inside .before in let loop = turn .loop in
+    let a = turn .before .args in
+    sym (loop .inv ∙ among-here (a .key) (a .rows .now) (loop .i) (loop .left) (inside .loop-test .taken) (past-first .if1 .left) (c .if2 .taken))
 
 loop-again : tie.Need-loop-again Inv-loop μ-loop
 loop-again c =
-    let loop-test = c .before .before .before .loop-test in
-    let loop = c .before .before .before .before .loop in
-    let a = c .before .before .before .before .before .args in
-    loop .inv ∙ among-next (a .key) (a .rows .now) (loop .i) (loop .left) (loop-test .taken) (c .before .before .if1 .left) (c .if2 .left)
+    let past-first = c .before .before in let inside = past-first .before in
+    let turn = inside .before in let loop = turn .loop in
+    let a = turn .before .args in
+    loop .inv ∙ among-next (a .key) (a .rows .now) (loop .i) (loop .left) (inside .loop-test .taken) (past-first .if1 .left) (c .if2 .left)
 
 returns-3 : tie.Need-returns-3 Inv-loop μ-loop
 returns-3 c =
@@ -49,7 +46,7 @@ listed-spec =
     (tie.spec
     Inv-loop
     μ-loop
-    loop-holds
+    (λ c. refl)
     returns
     (λ c. search needs)
     (λ c. search needs)
