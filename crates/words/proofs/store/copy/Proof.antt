@@ -14,32 +14,20 @@ Inv-loop work₀ at end to i₀ j₀ work i j = (at ≤ i) × (i ≤ end) × Ahe
 abbrev μ-loop : tie.MeasureT-loop
 μ-loop work₀ at end to i₀ j₀ work i j = end - i
 
-loop-holds : tie.Need-loop-holds Inv-loop μ-loop
-loop-holds c = (omega arith, omega arith, ahead-start _ _ _)
-
-mul-word : tie.Need-mul-word Inv-loop μ-loop
-mul-word c = omega (arith, ahead-length (c .before .loop .inv .2))
-
-slice-read-word : tie.Need-slice-read-word Inv-loop μ-loop
-slice-read-word c = omega (arith, ahead-length (c .before .before .loop .inv .2))
-
 put-requires : tie.Need-put-requires Inv-loop μ-loop
 put-requires c κs =
-    let loop = c .before .before .before .loop in
-    let a = c .before .before .before .before .before .args in omega (arith, loop .inv .2 .ends, length-slice (a .at) (a .end) (a .work .now) (omega arith))
+    let turn = c .before .before .before in
+    let a = turn .before .before .args in omega (arith, turn .loop .inv .2 .ends, length-slice (a .at) (a .end) (a .work .now) (omega arith))
 
 loop-again : tie.Need-loop-again Inv-loop μ-loop
 loop-again c =
-    let loop = c .before .before .before .before .before .before .loop in
-    let a = c .before .before .before .before .before .before .before .before .args in
-    let l = loop in (
+    let put-here = c .before .before in let turn = put-here .before .before .before .before in
+    let a = turn .before .before .args in
+    let l = turn .loop in (
       omega arith,
       omega arith,
-      ahead-turn (l .inv .2) (rw (ahead-read (l .inv .2) (l .i) (omega arith)) (slice-next (l .i) (a .end) (a .work .now) (omega arith) (omega arith))) (c .before .before .put .ensures),
+      ahead-turn (l .inv .2) (rw (ahead-read (l .inv .2) (l .i) (omega arith)) (slice-next (l .i) (a .end) (a .work .now) (omega arith) (omega arith))) (put-here .put .ensures),
     )
-
-same-length : tie.Need-same-length Inv-loop μ-loop
-same-length c = ahead-length (c .before .loop .inv .2)
 
 returns : tie.Need-returns Inv-loop μ-loop
 returns c =
@@ -52,12 +40,12 @@ copy-spec =
     (tie.spec
     Inv-loop
     μ-loop
-    loop-holds
-    mul-word
-    slice-read-word
+    (λ c. (omega arith, omega arith, ahead-start _ _ _))
+    (λ c. omega (arith, ahead-length (c .before .loop .inv .2)))
+    (λ c. omega (arith, ahead-length (c .before .before .loop .inv .2)))
     put-requires
     (λ c. search needs)
     (λ c. search needs)
     loop-again
-    same-length
+    (λ c. ahead-length (c .before .loop .inv .2))
     returns)

@@ -17,21 +17,12 @@ Inv-loop work₀ from size end i₀ j₀ work i j =
 abbrev μ-loop : tie.MeasureT-loop
 μ-loop work₀ from size end i₀ j₀ work i j = end - i
 
-loop-holds : tie.Need-loop-holds Inv-loop μ-loop
-loop-holds c = (omega arith, omega arith, refl, omega arith, refl, ahead-start _ _ _)
-
-mul-word : tie.Need-mul-word Inv-loop μ-loop
-mul-word c = omega (arith, ahead-length (c .before .loop .inv .5))
-
-slice-read-word : tie.Need-slice-read-word Inv-loop μ-loop
-slice-read-word c = omega (arith, ahead-length (c .before .before .loop .inv .5))
-
 loop-again : tie.Need-loop-again Inv-loop μ-loop
 loop-again c =
-    let put = c .before .before .put in
-    let loop = c .before .before .before .before .before .before .loop in
-    let a = c .before .before .before .before .before .before .before .before .args in
-    let l = loop in (
+    let put-here = c .before .before in let turn = put-here .before .before .before .before in
+    let put = put-here .put in
+    let a = turn .before .before .args in
+    let l = turn .loop in (
       omega arith,
       omega arith,
       l .inv .2,
@@ -39,9 +30,6 @@ loop-again c =
       behind-word (a .work .now) (l .work) (a .from) (l .inv .4) (omega arith) (put .ensures),
       ahead-turn (l .inv .5) (rw (behind-read (a .work .now) (l .work) (a .from) (l .inv .4) (l .i) (omega arith)) (slice-next (l .i) (a .from + a .size) (a .work .now) (omega arith) (omega arith))) (put .ensures),
     )
-
-same-length : tie.Need-same-length Inv-loop μ-loop
-same-length c = ahead-length (c .before .loop .inv .5)
 
 returns : tie.Need-returns Inv-loop μ-loop
 returns c =
@@ -55,12 +43,12 @@ copy-back-spec =
     Inv-loop
     μ-loop
     (λ c. search needs)
-    loop-holds
-    mul-word
-    slice-read-word
+    (λ c. (omega arith, omega arith, refl, omega arith, refl, ahead-start _ _ _))
+    (λ c. omega (arith, ahead-length (c .before .loop .inv .5)))
+    (λ c. omega (arith, ahead-length (c .before .before .loop .inv .5)))
     (λ c κs. search needs)
     (λ c. search needs)
     (λ c. search needs)
     loop-again
-    same-length
+    (λ c. ahead-length (c .before .loop .inv .5))
     returns)

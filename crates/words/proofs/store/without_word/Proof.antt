@@ -9,22 +9,21 @@ use Rattle.words.proofs.store.without_word.Tie as tie
 
 copy-requires-2 : tie.Need-copy-requires-2
 copy-requires-2 c κs =
-    let copy = c .before .before .before .copy in
-    let start = c .before .before .before .before .before .before in
-    let h = theory-starts (start .pre) [] (copy .ensures) in
-    omega (arith, place-near (start .pre) (copy .ensures), ahead-length h, start .pre)
+    let copied = c .before .before .before in let begun = copied .before .before .before in
+    let copy = copied .copy in
+    let h = theory-starts (begun .pre) [] (copy .ensures) in
+    omega (arith, place-near (begun .pre) (copy .ensures), ahead-length h, begun .pre)
 
 sub-result : tie.Need-sub-result
 sub-result c =
-    let copy = c .before .before .before .before .before .before .copy in
-    let start = c .before .before .before .before .before .before .before .before .before in
-    omega (arith, c .before .before .copy2 .ensures .ends, place-near (start .pre) (copy .ensures))
+    let second-copied = c .before .before in let copied = second-copied .before .before .before .before in
+    omega (arith, second-copied .copy2 .ensures .ends, place-near (copied .before .before .before .pre) (copied .copy .ensures))
 
 returns : tie.Need-returns
 returns c =
-    let copy = c .before .before .before .before .before .before .copy in
-    let start = c .before .before .before .before .before .before .before .before .before in
-    theory-ends (start .pre) (theory-starts (start .pre) [] (copy .ensures)) (c .before .before .copy2 .ensures)
+    let second-copied = c .before .before in let copied = second-copied .before .before .before .before in
+    let begun = copied .before .before .before in
+    theory-ends (begun .pre) (theory-starts (begun .pre) [] (copied .copy .ensures)) (second-copied .copy2 .ensures)
 
 pub without-word-spec : {M : Type 1} → statement M
 without-word-spec =

@@ -17,9 +17,6 @@ Inv-loop work at count pending₀ i₀ pending i =
 abbrev μ-loop : tie.MeasureT-loop
 μ-loop work at count pending₀ i₀ pending i = length work - i
 
-loop-holds : tie.Need-loop-holds Inv-loop μ-loop
-loop-holds c = (omega arith, omega arith, refl, omega arith)
-
 returns : tie.Need-returns Inv-loop μ-loop
 returns c =
     let a = c .before .before .before .before .args in
@@ -29,10 +26,9 @@ returns c =
 
 loop-again : tie.Need-loop-again Inv-loop μ-loop
 loop-again c =
-    let loop = c .before .before .before .before .loop in
-    let a = c .before .before .before .before .before .before .args in
-    let l = loop in
-    let turn = skip-turn (a .work .now) (l .i) (l .pending) (c .before .before .if1 .left) (omega arith) in
+    let past-first = c .before .before in let here = past-first .before .before in
+    let l = here .loop in
+    let turn = skip-turn (here .before .before .args .work .now) (l .i) (l .pending) (past-first .if1 .left) (omega arith) in
     (omega arith, omega arith, l .inv .2 ∙ rw (c .parts-of .ensures .0) turn, omega (arith, c .parts-of .ensures .1))
 
 returns-2 : tie.Need-returns-2 Inv-loop μ-loop
@@ -49,7 +45,7 @@ past-spec =
     (tie.spec
     Inv-loop
     μ-loop
-    loop-holds
+    (λ c. (omega arith, omega arith, refl, omega arith))
     returns
     (λ c. search needs)
     (λ c. search needs)

@@ -19,17 +19,13 @@ Inv-loop work at text path steps place₀ number₀ pending₀ place number pend
 abbrev μ-loop : tie.MeasureT-loop
 μ-loop work at text path steps place₀ number₀ pending₀ place number pending = pending
 
-loop-holds : tie.Need-loop-holds Inv-loop μ-loop
-loop-holds c = (omega arith, omega arith, omega arith, refl)
-
 returns : tie.Need-returns Inv-loop μ-loop
 returns c =
-    let down = c .before .before .down in
-    let digits-at = c .before .before .before .digits-at in
-    let loop = c .before .before .before .before .before .loop in
-    let a = c .before .before .before .before .before .before .before .before .args in
-    let l = loop in
-    let d = digits-at .ensures in (
+    let stepped = c .before .before in let counted = stepped .before in
+    let turn = counted .before .before in let down = stepped .down in
+    let a = turn .before .before .before .args in
+    let l = turn .loop in
+    let d = counted .digits-at .ensures in (
       sym (l .inv .3 ∙ walk-stop (a .work .now) (a .text .now) (l .number) (l .pending) (l .place) _ (down .result) (omega arith) (d .next)
           (down .ensures .0 ∙ ap (placeBelow (a .work .now) (l .place)) (d .value)) (c .enum-told .given .1)),
       tt,
@@ -37,12 +33,11 @@ returns c =
 
 loop-again : tie.Need-loop-again Inv-loop μ-loop
 loop-again c =
-    let down = c .before .before .before .down in
-    let digits-at = c .before .before .before .before .digits-at in
-    let loop = c .before .before .before .before .before .before .loop in
-    let a = c .before .before .before .before .before .before .before .before .before .args in
-    let l = loop in
-    let d = digits-at .ensures in (
+    let stepped = c .before .before .before in let counted = stepped .before in
+    let turn = counted .before .before in let down = stepped .down in
+    let a = turn .before .before .before .args in
+    let l = turn .loop in
+    let d = counted .digits-at .ensures in (
       subst (Within (length (a .work .now))) (c .before .below .given .1) (down .ensures .1),
       omega arith,
       omega (arith, d .within),
@@ -62,7 +57,7 @@ walk-spec =
     (tie.spec
     Inv-loop
     μ-loop
-    loop-holds
+    (λ c. (omega arith, omega arith, omega arith, refl))
     (λ c κs. search needs)
     (λ c κs. search needs)
     (λ c. search needs)

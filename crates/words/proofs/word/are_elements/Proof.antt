@@ -16,20 +16,15 @@ Inv-loop work at count i₀ pending₀ i pending = (pending ≤ count) × (i + p
 abbrev μ-loop : tie.MeasureT-loop
 μ-loop work at count i₀ pending₀ i pending = pending
 
-loop-holds : tie.Need-loop-holds Inv-loop μ-loop
-loop-holds c = (omega arith, refl, refl)
-
 returns : tie.Need-returns Inv-loop μ-loop
 returns c =
-    let loop = c .before .before .before .loop in
-    let l = loop in
-    sym (l .inv .2 ∙ elements-stop (c .before .before .before .before .before .args .work .now) (l .i) (l .pending) (omega arith) (λ e. c .if1 .taken (rw (c .before .peek .ensures) e)))
+    let turn = c .before .before .before in let l = turn .loop in
+    sym (l .inv .2 ∙ elements-stop (turn .before .before .args .work .now) (l .i) (l .pending) (omega arith) (λ e. c .if1 .taken (rw (c .before .peek .ensures) e)))
 
 loop-again : tie.Need-loop-again Inv-loop μ-loop
 loop-again c =
-    let loop = c .before .before .before .loop in
-    let l = loop in
-    (omega arith, omega arith, l .inv .2 ∙ elements-more (c .before .before .before .before .before .args .work .now) (l .i) (l .pending) (omega arith) (rw (c .before .peek .ensures) at (c .if1 .left)))
+    let turn = c .before .before .before in let l = turn .loop in
+    (omega arith, omega arith, l .inv .2 ∙ elements-more (turn .before .before .args .work .now) (l .i) (l .pending) (omega arith) (rw (c .before .peek .ensures) at (c .if1 .left)))
 
 returns-2 : tie.Need-returns-2 Inv-loop μ-loop
 returns-2 c =
@@ -42,7 +37,7 @@ are-elements-spec =
     (tie.spec
     Inv-loop
     μ-loop
-    loop-holds
+    (λ c. (omega arith, refl, refl))
     (λ c κs. search needs)
     returns
     (λ c. search needs)
