@@ -40,41 +40,33 @@ loop-holds c =
 
 -- one name more is compared
 more : (c : tie.After-digits-at Inv-loop μ-loop)
-    → let a = c .before .before .before .before .before .before .args in
-    let l = c .before .before .loop in
+    → let turn = c .before .before in
+    let a = turn .before .before .before .before .args in
+    let l = turn .loop in
     let r = c .digits-at .result in
     same (numbersAt (a .text .now) (a .at) (a .many)) (region (a .work .now) (a .from) (a .count))
     ≡ (eqb (r .value) (getD (a .work .now) (a .from + l .i) 0) && same (numbersAt (a .text .now) (r .next + 1) (a .count - (l .i + 1))) (drop (l .i + 1) (region (a .work .now) (a .from) (a .count))))
 more c =
-    let start = c .before .before .before .before .before .before in
-    let a = start .args in
-    let l = c .before .before .loop in
+    let turn = c .before .before in let begun = turn .before .before .before .before in
+    let a = begun .args in
+    let l = turn .loop in
     let d = c .digits-at .ensures in
     let less : a .count - l .i - 1 ≡ a .count - (l .i + 1) = omega arith in
-    let some = c .before .loop-test .taken in
     l .inv .2
-    ∙ rw (numbersAt-more (a .text .now) (l .place) (a .count - l .i) (omega arith), region-more (a .work .now) (a .from) (a .count) (start .pre .2) (l .i) some, ← d .value, ← d .next, less)
-
-returns-2 : tie.Need-returns-2 Inv-loop μ-loop
-returns-2 c = sym (more (c .before .before .before) ∙ rw (ne-eqb _ _ (c .if2 .taken)))
-
-add-place : tie.Need-add-place Inv-loop μ-loop
-add-place c =
-    let digits-at = c .before .before .before .before .digits-at in
-    omega (arith, digits-at .ensures .within)
+    ∙ rw (numbersAt-more (a .text .now) (l .place) (a .count - l .i) (omega arith), region-more (a .work .now) (a .from) (a .count) (begun .pre .2) (l .i) (c .before .loop-test .taken), ← d .value, ← d .next, less)
 
 loop-again : tie.Need-loop-again Inv-loop μ-loop
 loop-again c =
     let before = c .before .before .before .before in
     let digits-at = c .before .before .before .before .digits-at in
-    (omega arith, omega (arith, digits-at .ensures .within), more (before) ∙ rw (eq-eqb _ _ (c .before .if2 .left)))
+    (omega arith, omega (arith, digits-at .ensures .within), more before ∙ rw (eq-eqb _ _ (c .before .if2 .left)))
 
 returns-3 : tie.Need-returns-3 Inv-loop μ-loop
 returns-3 c =
-    let start = c .before .before .before .before .before in
-    let a = start .args in
-    let l = c .before .loop in
-    sym (l .inv .2 ∙ rw (numbersAt-none (a .text .now) (l .place) (a .count - l .i) (omega arith), region-end (a .work .now) (a .from) (a .count) (start .pre .2) (l .i) (c .loop-test .left)))
+    let turn = c .before in let begun = turn .before .before .before .before in
+    let a = begun .args in
+    let l = turn .loop in
+    sym (l .inv .2 ∙ rw (numbersAt-none (a .text .now) (l .place) (a .count - l .i) (omega arith), region-end (a .work .now) (a .from) (a .count) (begun .pre .2) (l .i) (c .loop-test .left)))
 
 pub are-listed-spec : {M : Type 1} → statement M
 are-listed-spec =
@@ -88,8 +80,8 @@ are-listed-spec =
     (λ c. search needs)
     (λ c. search needs)
     (λ c. search needs)
-    returns-2
-    add-place
+    (λ c. sym (more (c .before .before .before) ∙ rw (ne-eqb _ _ (c .if2 .taken))))
+    (λ c. let digits-at = c .before .before .before .before .digits-at in omega (arith, digits-at .ensures .within))
     (λ c. search needs)
     (λ c. search needs)
     loop-again

@@ -20,9 +20,6 @@ Inv-loop text at many top place₀ greatest₀ left₀ place greatest left =
 abbrev μ-loop : tie.MeasureT-loop
 μ-loop text at many top place₀ greatest₀ left₀ place greatest left = left
 
-loop-holds : tie.Need-loop-holds Inv-loop μ-loop
-loop-holds c = (omega arith, omega arith, refl, refl)
-
 -- one number more
 more : (c : tie.After-digits-at Inv-loop μ-loop)
     → let s = c .before .before .before .before .args .text .now in
@@ -33,14 +30,6 @@ more c =
     let l = c .before .before .loop in
     let d = c .digits-at .ensures in
     numbersAt-more (c .before .before .before .before .args .text .now) (l .place) (l .left) (c .before .loop-test .taken) ∙ rw (← d .value, ← d .next)
-
-returns : tie.Need-returns Inv-loop μ-loop
-returns c =
-    let loop = c .before .before .before .loop in
-    loop .inv .2 ∙ rw (more (c .before), le-ltb _ _ (c .if1 .taken))
-
-add-place : tie.Need-add-place Inv-loop μ-loop
-add-place c = omega (arith, c .before .before .digits-at .ensures .within)
 
 loop-again : tie.Need-loop-again Inv-loop μ-loop
 loop-again c =
@@ -61,10 +50,10 @@ climbs-spec =
     (tie.spec
     Inv-loop
     μ-loop
-    loop-holds
+    (λ c. (omega arith, omega arith, refl, refl))
     (λ c κs. search needs)
-    returns
-    add-place
+    (λ c. let loop = c .before .before .before .loop in loop .inv .2 ∙ rw (more (c .before), le-ltb _ _ (c .if1 .taken)))
+    (λ c. omega (arith, c .before .before .digits-at .ensures .within))
     (λ c. search needs)
     (λ c. search needs)
     loop-again

@@ -17,9 +17,6 @@ Inv-loop work start count name i₀ i = (i ≤ count) × (indexIn name (region w
 abbrev μ-loop : tie.MeasureT-loop
 μ-loop work start count name i₀ i = count - i
 
-loop-holds : tie.Need-loop-holds Inv-loop μ-loop
-loop-holds c = (omega arith, omega arith)
-
 -- the index in the rest, by the name at its front
 module _ (c : tie.In-loop Inv-loop μ-loop) where
   abbrev rest : ℕ → List ℕ
@@ -59,7 +56,7 @@ index-of-spec =
     (tie.spec
     Inv-loop
     μ-loop
-    loop-holds
+    (λ c. (omega arith, omega arith))
     (λ c. search needs)
     (λ c. search needs)
     (λ c. search needs)

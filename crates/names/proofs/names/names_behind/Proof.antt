@@ -22,46 +22,41 @@ module _ (c : tie.After-copy) where
 
 -- what is stored up to the new names
 ahead : (c : tie.After-put-numbers)
-    → let a = c .before .before .before .before .before .before .before .before .args in
+    → let copied = c .before .before .before .before in
+    let a = copied .before .before .before .before .args in
     Ahead (a .list .now) (a .spare) (spliced (a .list .now) (a .index) (a .index + 1) (a .count) (numbersAt (a .text .now) (a .at) (a .many))) (c .put-numbers .last .0) (c .put-numbers .result) (slice (a .index + 1) (a .count) (a .list .now))
 ahead c =
-    let start = c .before .before .before .before .before .before .before .before in
-    let a = start .args in
-    ahead-turn (theory-starts (roomy-placed (start .pre .0)) (numbersAt (a .text .now) (a .at) (a .many)) (c .before .before .before .before .copy .ensures)) refl (c .put-numbers .ensures)
-
-copy-requires : tie.Need-copy-requires
-copy-requires c κs =
-    let start = c .before .before .before in
-    omega (arith, start .pre .0)
+    let copied = c .before .before .before .before in let begun = copied .before .before .before .before in
+    let a = begun .args in
+    ahead-turn (theory-starts (roomy-placed (begun .pre .0)) (numbersAt (a .text .now) (a .at) (a .many)) (copied .copy .ensures)) refl (c .put-numbers .ensures)
 
 put-numbers-requires : tie.Need-put-numbers-requires
 put-numbers-requires c κs =
-    let pre = c .before .before .before .before .before .before .before .pre in
-    (pre .1, pre .2, omega (arith, near (c .before .before .before), pre .0))
+    let copied = c .before .before .before in let pre = copied .before .before .before .before .pre in
+    (pre .1, pre .2, omega (arith, near copied, pre .0))
 
 copy-requires-2 : tie.Need-copy-requires-2
 copy-requires-2 c κs =
-    let start = c .before .before .before .before .before .before .before .before .before .before .before in
-    let a = start .args in
-    omega (arith, near (c .before .before .before .before .before .before .before), c .before .before .before .put-numbers .ensures .ends, length-numbersAt (a .text .now) (a .at) (a .many), ahead-length (ahead (c .before .before .before)), start .pre .0, start .pre .2)
+    let stored = c .before .before .before in let copied = stored .before .before .before .before in
+    let begun = copied .before .before .before .before in let a = begun .args in
+    omega (arith, near copied, stored .put-numbers .ensures .ends, length-numbersAt (a .text .now) (a .at) (a .many), ahead-length (ahead stored), begun .pre .0, begun .pre .2)
 
 sub-result : tie.Need-sub-result
 sub-result c =
-    let put-numbers = c .before .before .before .before .before .before .put-numbers in
-    let before = c .before .before .before .before .before .before .before .before .before .before in
-    omega (arith, c .before .before .copy2 .ensures .ends, near (before), put-numbers .ensures .ends)
+    let second-copied = c .before .before in let stored = second-copied .before .before .before .before in
+    omega (arith, second-copied .copy2 .ensures .ends, near (stored .before .before .before .before), stored .put-numbers .ensures .ends)
 
 returns : tie.Need-returns
 returns c =
-    let before = c .before .before .before .before .before .before in
-    let start = c .before .before .before .before .before .before .before .before .before .before .before .before .before .before in
-    theory-ends (roomy-placed (start .pre .0)) (ahead (before)) (c .before .before .copy2 .ensures)
+    let second-copied = c .before .before in let stored = second-copied .before .before .before .before in
+    let copied = stored .before .before .before .before in
+    theory-ends (roomy-placed (copied .before .before .before .before .pre .0)) (ahead stored) (second-copied .copy2 .ensures)
 
 pub names-behind-spec : {M : Type 1} → statement M
 names-behind-spec =
     tie.close
     (tie.spec
-    copy-requires
+    (λ c κs. let start = c .before .before .before in omega (arith, start .pre .0))
     put-numbers-requires
     (λ c. search needs)
     copy-requires-2

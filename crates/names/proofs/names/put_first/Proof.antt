@@ -17,12 +17,6 @@ Inv-loop list₀ count i₀ list i = (i ≤ count) × (length list ≡ length li
 abbrev μ-loop : tie.MeasureT-loop
 μ-loop list₀ count i₀ list i = count - i
 
-loop-holds : tie.Need-loop-holds Inv-loop μ-loop
-loop-holds c = (omega arith, refl, refl)
-
-slice-write-list : tie.Need-slice-write-list Inv-loop μ-loop
-slice-write-list c = omega (arith, c .before .loop .inv .1)
-
 loop-again : tie.Need-loop-again Inv-loop μ-loop
 loop-again c =
     let l = c .before .loop in
@@ -31,9 +25,6 @@ loop-again c =
       length-set (l .list) (l .i) _ ∙ l .inv .1,
       rw (l .inv .2) (first-more (start .args .list .now) (l .i) (omega (arith, start .pre .0))),
     )
-
-same-length : tie.Need-same-length Inv-loop μ-loop
-same-length c = c .before .loop .inv .1
 
 returns : tie.Need-returns Inv-loop μ-loop
 returns c =
@@ -47,13 +38,13 @@ put-first-spec =
     (tie.spec
     Inv-loop
     μ-loop
-    loop-holds
+    (λ c. (omega arith, refl, refl))
     (λ c. search needs)
     (λ c. search needs)
     (λ c. search needs)
-    slice-write-list
+    (λ c. omega (arith, c .before .loop .inv .1))
     (λ c. search needs)
     (λ c. search needs)
     loop-again
-    same-length
+    (λ c. c .before .loop .inv .1)
     returns)

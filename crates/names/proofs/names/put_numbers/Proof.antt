@@ -16,29 +16,19 @@ Inv-loop list₀ to text at many place₀ next₀ left₀ list place next left =
 abbrev μ-loop : tie.MeasureT-loop
 μ-loop list₀ to text at many place₀ next₀ left₀ list place next left = left
 
-loop-holds : tie.Need-loop-holds Inv-loop μ-loop
-loop-holds c = (omega arith, omega arith, ahead-start _ _ _)
-
 put-requires : tie.Need-put-requires Inv-loop μ-loop
 put-requires c κs =
-    let loop = c .before .before .before .loop in
-    let a = c .before .before .before .before .before .before .args in
-    omega (arith, loop .inv .2 .ends, length-numbersAt (a .text .now) (a .at) (a .many))
-
-add-place : tie.Need-add-place Inv-loop μ-loop
-add-place c =
-    let digits-at = c .before .before .before .before .before .digits-at in
-    omega (arith, digits-at .ensures .within)
+    let turn = c .before .before .before in let a = turn .before .before .before .args in
+    omega (arith, turn .loop .inv .2 .ends, length-numbersAt (a .text .now) (a .at) (a .many))
 
 loop-again : tie.Need-loop-again Inv-loop μ-loop
 loop-again c =
-    let l = c .before .before .before .before .before .before .before .loop in
-    let d = c .before .before .before .before .before .digits-at .ensures in
-    let more = rw (← d .value, ← d .next) at (numbersAt-more (c .before .before .before .before .before .before .before .before .before .before .args .text .now) (l .place) (l .left) (c .before .before .before .before .before .before .loop-test .taken)) in
-    (omega arith, omega (arith, d .within), ahead-turn (l .inv .2) more (c .before .before .before .put .ensures))
-
-same-length : tie.Need-same-length Inv-loop μ-loop
-same-length c = ahead-length (c .before .loop .inv .2)
+    let put-here = c .before .before .before in let counted = put-here .before .before in
+    let inside = counted .before in let turn = inside .before in
+    let l = turn .loop in
+    let d = counted .digits-at .ensures in
+    let more = rw (← d .value, ← d .next) at (numbersAt-more (turn .before .before .before .args .text .now) (l .place) (l .left) (inside .loop-test .taken)) in
+    (omega arith, omega (arith, d .within), ahead-turn (l .inv .2) more (put-here .put .ensures))
 
 returns : tie.Need-returns Inv-loop μ-loop
 returns c = ahead-end (c .before .loop .inv .2) (numbersAt-none (c .before .before .before .before .args .text .now) (c .before .loop .place) (c .before .loop .left) (omega arith))
@@ -49,12 +39,12 @@ put-numbers-spec =
     (tie.spec
     Inv-loop
     μ-loop
-    loop-holds
+    (λ c. (omega arith, omega arith, ahead-start _ _ _))
     (λ c κs. search needs)
     put-requires
-    add-place
+    (λ c. let listed = c .before .before in omega (arith, listed .before .before .before .digits-at .ensures .within))
     (λ c. search needs)
     (λ c. search needs)
     loop-again
-    same-length
+    (λ c. ahead-length (c .before .loop .inv .2))
     returns)

@@ -21,17 +21,15 @@ short c =
 
 copy-back-requires : tie.Need-copy-back-requires
 copy-back-requires c κs =
-    let start = c .before .before .before .before .before .before .before in
-    let same : length (c .before .before .before .names-behind .last .0) ≡ length (start .args .list .now) = search needs in
-    omega (arith, start .pre .0, short (c .before .before .before), same)
+    let behind = c .before .before .before in let begun = behind .before .before .before .before in
+    let same : length (behind .names-behind .last .0) ≡ length (begun .args .list .now) = search needs in
+    omega (arith, begun .pre .0, short behind, same)
 
 returns : tie.Need-returns
 returns c =
-    let before = c .before .before .before .before .before .before in
-    let names-behind = c .before .before .before .before .before .before .names-behind in
-    let start = c .before .before .before .before .before .before .before .before .before .before in
-    let behind = names-behind .ensures in
-    (fronted _ _ _ _ _ _ (behind .holds) (behind .sized) (short (before)) (start .pre .0 .room) (c .before .before .copy-back .ensures .holds), short (before))
+    let copied = c .before .before in let names-behind = copied .before .before .before .before in
+    let behind = names-behind .names-behind .ensures in
+    (fronted _ _ _ _ _ _ (behind .holds) (behind .sized) (short names-behind) (names-behind .before .before .before .before .pre .0 .room) (copied .copy-back .ensures .holds), short names-behind)
 
 pub with-names-spec : {M : Type 1} → statement M
 with-names-spec = tie.close (tie.spec (λ c κs. search needs) copy-back-requires (λ c. search needs) returns)
