@@ -26,7 +26,7 @@ returns-3 c =
 returns-4 : tie.Need-returns-4
 unfolding theorySize formulaCount guardQuantifierCount
 returns-4 c =
-    let a = c .before .before .before .before .before .args in
+    let past-third = c .before in let a = past-third .before .before .before .before .args in
     rw (le-leb (a .full) 4096 (omega arith), le-leb (a .count) 1024 (omega arith), le-leb (a .guarded) 3 (omega arith)) (c .names-fit .ensures)
 
 pub limits-fit-spec : {M : Type 1} → statement M

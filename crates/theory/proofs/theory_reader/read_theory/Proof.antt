@@ -48,18 +48,22 @@ module _ (line : tie.After-read-theory-line Inv-loop μ-loop) where
 
 -- a line that is not refused
 found : (c : tie.After-known-told Inv-loop μ-loop) (rows : List ℕ)
-    → let line = c .before .before .before .before .before in
+    → let given = c .before in
+    let line = given .before .before .before .before in
     let a = begun line .args in
     let l = turn line .before .loop in
-    let n = c .before .next .given .0 in
+    let n = given .next .given .0 in
     TheoryLineFound (problem (begun line) rows) (a .text .now) (predicateIndex (a .problem .now) (a .table)) (l .at) (memory (l .names) (l .work)) (l .full) (n .0) (n .1 .0) (n .1 .1 .0) (left line)
-found c rows = rw (c .before .next .given .1) at (c .before .before .before .before .before .read-theory-line .ensures rows)
+found c rows =
+    let given = c .before in
+    rw (given .next .given .1) at (given .before .before .before .before .read-theory-line .ensures rows)
 
 -- whether the totals fit
 fits : (c : tie.After-limits-fit Inv-loop μ-loop) (b : Bool) → c .limits-fit .result ≡ b
-    → let line = c .before .before .before .before .before .before .before in
+    → let given = c .before .before .before in
+    let line = given .before .before .before .before in
     let l = turn line .before .loop in
-    let n = c .before .before .before .next .given .0 in
+    let n = given .next .given .0 in
     totalsFit (l .full + n .1 .0) (l .count + 1) (n .1 .1 .0) (namesIn (begun line .args .text .now) (left line .names)) ≡ b
 fits c b e = sym (c .limits-fit .ensures) ∙ e
 
@@ -71,43 +75,38 @@ loop-holds c =
 
 add-full : tie.Need-add-full Inv-loop μ-loop
 add-full c =
-    let before = c .before .before .before .before .before in
+    let given = c .before in let line = given .before .before .before .before in
     let f = found c [] in
-    omega (arith, f .after, f .within, turn (before) .before .loop .inv .1, begun (before) .pre .0)
+    omega (arith, f .after, f .within, turn line .before .loop .inv .1, begun line .pre .0)
 
 returns : tie.Need-returns Inv-loop μ-loop
 returns c =
-    let line = c .before .before .before .before .before .before .before .before in
+    let given = c .before .before .before .before in let line = given .before .before .before .before in
     λ rows. theory-over (empty (begun line)) (turn line .before .loop .inv .4 rows) (turn line .loop-test .taken) (found (c .before .before .before) rows) (fits (c .before) false (not-true _ (c .if1 .taken)))
-
-loop-less : tie.Need-loop-less Inv-loop μ-loop
-loop-less c =
-    let f = found (c .before .before .before) [] in
-    omega (arith, f .after, f .within)
 
 loop-again : tie.Need-loop-again Inv-loop μ-loop
 loop-again c =
-    let line = c .before .before .before .before .before .before .before .before in
-    let l = turn line .before .loop in
+    let arm = c .before .before .before in let given = c .before .before .before .before in
+    let line = given .before .before .before .before in let l = turn line .before .loop in
     let all = fits (c .before) true (not-false _ (c .if1 .left)) in
     let small = totals-small _ _ _ (namesIn (begun line .args .text .now) (left line .names)) all in (
-      found (c .before .before .before) [] .within,
+      found arm [] .within,
       small .0,
       small .1,
       line .read-theory-line .kept .1 .1 .1 .1 .1 .0 ∙ l .inv .3,
-      λ rows. theory-on (empty (begun line)) (l .inv .4 rows) (turn line .loop-test .taken) (found (c .before .before .before) rows) all,
+      λ rows. theory-on (empty (begun line)) (l .inv .4 rows) (turn line .loop-test .taken) (found arm rows) all,
     )
 
 returns-2 : tie.Need-returns-2 Inv-loop μ-loop
 returns-2 c =
-    let line = c .before .before .before .before .before in
-    λ rows. theory-refused (empty (begun line)) (turn line .before .loop .inv .4 rows) (turn line .loop-test .taken) _ (rw (c .before .number .given .1) at (line .read-theory-line .ensures rows))
+    let numbered = c .before in let line = numbered .before .before .before .before in
+    λ rows. theory-refused (empty (begun line)) (turn line .before .loop .inv .4 rows) (turn line .loop-test .taken) _ (rw (numbered .number .given .1) at (line .read-theory-line .ensures rows))
 
 returns-3 : tie.Need-returns-3 Inv-loop μ-loop
 returns-3 c =
-    let start = c .before .before .before .before .before in
-    let l = c .before .loop in
-    λ rows. theory-end (empty start) (l .inv .4 rows) (c .loop-test .left) (omega (arith, l .inv .1, start .pre .4))
+    let turn = c .before in let begun = turn .before .before .before .before in
+    let l = turn .loop in
+    λ rows. theory-end (empty begun) (l .inv .4 rows) (c .loop-test .left) (omega (arith, l .inv .1, begun .pre .4))
 
 pub read-theory-spec : {M : Type 1} → statement M
 read-theory-spec =
@@ -124,7 +123,7 @@ read-theory-spec =
     (λ c. search needs)
     (λ c. search needs)
     returns
-    loop-less
+    (λ c. let f = found (c .before .before .before) [] in omega (arith, f .after, f .within))
     loop-again
     (λ c. search needs)
     (λ c. search needs)
