@@ -3,7 +3,7 @@
 use borrow.Author.Needs.{needs}
 use native.Mathlib.Omega.{arith}
 use Prim.Native.Nat.{ℕ}
-use mathlib.Core.Path.{_≡_, sym, _∙_}
+use mathlib.Core.Path.{subst, _≡_, sym, _∙_}
 use mathlib.Core.List.{List}
 use mathlib.Core.Bool.{Bool, true, false}
 use lib.ListN.{length, take, drop}
@@ -28,16 +28,20 @@ module _ (start : tie.Start) where
   words-long : length (memory .words) ≡ start .args .live .full
   words-long = length-take-le (start .args .live .full) (start .args .work .now) (omega (arith, start .pre))
 
+abbrev begun : tie.Else2 → tie.Start
+begun unended = unended .before .before .before .before .before
+
 -- the footer lists the live names
 listed : (c : tie.Else1) → let start = c .before .before .before .before in same (final start) (memory start .names) ≡ true
 listed c = sym (c .before .are-listed .ensures) ∙ not-false _ (c .if1 .left)
 
 -- whether the final formulas are clauses
-clauses : (c : tie.After-are-clauses-at) (b : Bool) → c .are-clauses-at .result ≡ b
-    → let start = c .before .before .before .before .before .before .before .before in allAt (clauseAt (start .args .table) 32) (length (memory start .names)) (memory start .words) ≡ b
-clauses c b e =
-    let start = c .before .before .before .before .before .before .before .before in
-    rw (region-length (start .args .work .now) (start .args .start) (start .args .live .count) (omega (arith, start .pre))) (sym (c .are-clauses-at .ensures) ∙ e)
+module _ (c : tie.After-are-clauses-at) where
+  abbrev start : tie.Start
+  start = begun (c .before .before .before)
+
+  clauses : (b : Bool) → c .are-clauses-at .result ≡ b → allAt (clauseAt (start .args .table) 32) (length (memory start .names)) (memory start .words) ≡ b
+  clauses b e = rw (region-length (start .args .work .now) (start .args .start) (start .args .live .count) (omega (arith, start .pre))) (subst (λ (x : Bool). x ≡ b) (c .are-clauses-at .ensures) e)
 
 returns : tie.Need-returns
 unfolding endIn
@@ -47,30 +51,17 @@ returns-2 : tie.Need-returns-2
 unfolding endIn
 returns-2 c = rw (listed (c .before), c .if2 .taken)
 
-slice-aggregate-are-clauses-at : tie.Need-slice-aggregate-are-clauses-at
-slice-aggregate-are-clauses-at c =
-    let before = c .before .before .before .before .before .before in
-    sym (words-long (before))
-
-are-clauses-at-requires : tie.Need-are-clauses-at-requires
-are-clauses-at-requires c κs =
-    let before = c .before .before .before .before .before .before .before in
-    let start = c .before .before .before .before .before .before .before in
-    (omega arith, omega (arith, words-long (before), start .pre))
-
 returns-3 : tie.Need-returns-3
 unfolding endIn
 returns-3 c =
-    let before = c .before .before .before .before .before in
-    let if2 = c .before .before .before .before .if2 in
-    rw (listed (before), if2 .left, clauses (c .before) true (c .if3 .taken))
+    let unended = c .before .before .before .before in
+    rw (listed (unended .before), unended .if2 .left, clauses (c .before) true (c .if3 .taken))
 
 returns-4 : tie.Need-returns-4
 unfolding endIn
 returns-4 c =
-    let before = c .before .before .before .before .before in
-    let if2 = c .before .before .before .before .if2 in
-    rw (listed (before), if2 .left, clauses (c .before) false (c .if3 .left))
+    let unended = c .before .before .before .before in
+    rw (listed (unended .before), unended .if2 .left, clauses (c .before) false (c .if3 .left))
 
 pub end-number-spec : {M : Type 1} → statement M
 end-number-spec =
@@ -79,8 +70,8 @@ end-number-spec =
     (λ c κs. search needs)
     returns
     returns-2
-    slice-aggregate-are-clauses-at
+    (λ c. sym (words-long (begun (c .before))))
     (λ c. search needs)
-    are-clauses-at-requires
+    (λ c κs. (omega arith, omega (arith, words-long (begun (c .before .before)), begun (c .before .before) .pre)))
     returns-3
     returns-4)

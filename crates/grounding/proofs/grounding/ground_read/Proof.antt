@@ -43,50 +43,56 @@ module _ (c : tie.After-read-theory) where
   long : length (part ++ drop (begun .args .layout .rows) (begun .args .work .now)) ≡ length (begun .args .work .now)
   long = length-front (begun .args .work .now) part (begun .args .layout .rows) same
 
-named-long : (c : tie.After-named) → length (c .named .last .0) ≡ length (c .before .before .before .before .before .before .before .before .before .before .before .before .before .before .args .work .now)
-named-long c =
-    let theory = c .before .before .before .before .before .before .before in
-    let kept : length (c .named .last .0) ≡ length (part theory ++ drop (begun theory .args .layout .rows) (begun theory .args .work .now)) = search needs in
-    kept ∙ long theory
+abbrev read : tie.After-count → tie.After-read-theory
+read counted = counted .before .before .before .before
 
--- the theory is read
-found : (c : tie.After-known-told)
-    → let start = c .before .before .before .before .before .before .before .before .before .before .before .before in
-    let read = c .before .count .given .0 in
-    TheoryFound (problem start) (start .args .theory .now) (predicateIndex (start .args .problem .now) (start .args .table)) (read .0) (read .1 .0) (c .before .before .before .before .before .read-theory .last .1 .1 .1 .0) (part (c .before .before .before .before .before))
-found c = rw (c .before .count .given .1) at (c .before .before .before .before .before .read-theory .ensures (rows (c .before .before .before .before .before .before .before .before .before .before .before .before)))
+-- the theory that was read
+found : (counted : tie.After-count)
+    → let theory = counted .before .before .before .before in
+    let known = theory .before .before .before in
+    let start = known .before .before .before .before in
+    let n = counted .count .given .0 in
+    TheoryFound (problem start) (start .args .theory .now) (predicateIndex (start .args .problem .now) (start .args .table)) (n .0) (n .1 .0) (theory .read-theory .last .1 .1 .1 .0) (part theory)
+found counted =
+    let theory = counted .before .before .before .before in let known = theory .before .before .before in
+    rw (counted .count .given .1) at (theory .read-theory .ensures (rows (known .before .before .before .before)))
 
-slice-aggregate-read-theory : tie.Need-slice-aggregate-read-theory
-slice-aggregate-read-theory c =
-    let before = c .before .before .before .before .before .before in
-    sym (front-long (before))
+-- its formulas are named
+module _ (named : tie.After-named) where
+  abbrev counted : tie.After-count
+  counted = named .before .before .before
+
+  abbrev theory : tie.After-read-theory
+  theory = read counted
+
+  named-long : length (named .named .last .0) ≡ length (begun theory .args .work .now)
+  named-long =
+      let kept : length (named .named .last .0) ≡ length (part theory ++ drop (begun theory .args .layout .rows) (begun theory .args .work .now)) = search needs in
+      kept ∙ long theory
 
 read-theory-requires : tie.Need-read-theory-requires
 read-theory-requires c κs =
-    let pre = c .before .before .before .before .before .before .pre in
-    (pre .1, pre .3, pre .4, refl, omega (arith, front-long (c .before .before .before .before .before .before), pre .0))
+    let known = c .before .before in let start = known .before .before .before .before in
+    (start .pre .1, start .pre .3, start .pre .4, refl, omega (arith, front-long start, start .pre .0))
 
 named-requires : tie.Need-named-requires
 named-requires c κs =
-    let before = c .before .before .before .before .before .before in
-    let start = c .before .before .before .before .before .before .before .before .before .before .before .before .before in
-    let f = found (c .before) in
-    (rw (long (before)) (start .pre .0), found-count f, found-full f)
+    let counted = c .before .before in
+    (rw (long (read counted)) (begun (read counted) .pre .0), found-count (found counted), found-full (found counted))
 
 replay-end-requires : tie.Need-replay-end-requires
 replay-end-requires c κs =
-    let pre = c .before .before .before .before .before .before .before .before .before .before .before .before .before .before .before .before .before .pre in
-    (rw (named-long (c .before .before .before)) (pre .0), c .before .before .before .named .ensures .few, pre .3, pre .2)
+    let named = c .before .before .before in let pre = begun (theory named) .pre in
+    (rw (named-long named) (pre .0), named .named .ensures .few, pre .3, pre .2)
 
 returns : tie.Need-returns
 returns c =
-    let end = c .before .before .replay-end in
-    let named = c .before .before .before .before .before .before in
-    let theory = c .before .before .before .before .before .before .before .before .before .before .before .before .before in
-    let start = c .before .before .before .before .before .before .before .before .before .before .before .before .before .before .before .before .before .before .before .before in
+    let replayed = c .before .before in let named = replayed .before .before .before .before in
+    let end = replayed .replay-end in
+    let theory = theory named in let start = begun theory in
     let a = start .args in
     let kept : length (end .last .1 .0) ≡ length (named .named .last .0) = search needs in
-    let f = found (c .before .before .before .before .before .before .before .before) in
+    let f = found (counted named) in
     let first = ended-first (a .layout) (a .work .now) (part theory) (start .pre .0) (same theory) (a .table) _ _ (found-full f) (named .named .result) (named .named .last .0) (named .named .ensures) (a .derivation .now) in
     λ isProblem inside.
     theory-ground (a .problem .now) (a .theory .now) (a .derivation .now) (a .table) (rows start) isProblem inside f (a .layout) (end .result) (end .last .1 .0)
@@ -94,9 +100,10 @@ returns c =
 
 returns-2 : tie.Need-returns-2
 returns-2 c =
-    let start = c .before .before .before .before .before .before .before .before .before .before .before .before .before in
+    let numbered = c .before .before in let read = numbered .before .before .before .before in
+    let known = read .before .before .before in let start = known .before .before .before .before in
     let a = start .args in
-    let t = rw (c .before .before .number .given .1) at (c .before .before .before .before .before .before .read-theory .ensures (rows start)) in
+    let t = rw (numbered .number .given .1) at (read .read-theory .ensures (rows start)) in
     λ isProblem inside.
     stopped (theory-refused (a .problem .now) (a .theory .now) (a .derivation .now) (a .table) (rows start) isProblem inside _ t ∙ refuses-as (c .refused-by .ensures))
 
@@ -105,7 +112,7 @@ ground-read-spec =
     tie.close
     (tie.spec
     (λ c. search needs)
-    slice-aggregate-read-theory
+    (λ c. let known = c .before .before in sym (front-long (known .before .before .before .before)))
     read-theory-requires
     (λ c. search needs)
     named-requires

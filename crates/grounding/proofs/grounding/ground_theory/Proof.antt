@@ -11,9 +11,13 @@ use Rattle.grounding.proofs.GroundReads.{problem-stopped, problem-small
 use Rattle.grounding.proofs.grounding.ground_theory.Statement.{statement}
 use Rattle.grounding.proofs.grounding.ground_theory.Tie as tie
 
+-- where the problem is read from
+abbrev begun : tie.After-read-problem → tie.Start
+begun done = done .before .before .before .before .before .before
+
 read-problem-requires : tie.Need-read-problem-requires
 read-problem-requires c κs =
-    let start = c .before .before .before .before .before in
+    let known = c .before in let start = known .before .before .before .before in
     let a = start .args in
     let d = length-drop (a .layout .rows) (a .work .now) in
     let l = length-take-le (a .layout .names - a .layout .rows) (drop (a .layout .rows) (a .work .now)) (omega (arith, d, start .pre .0)) in
@@ -21,27 +25,30 @@ read-problem-requires c κs =
 
 returns : tie.Need-returns
 returns c =
-    let read = c .before .before .before .before .before .before .read-problem in
-    let a = c .before .before .before .before .before .before .before .before .before .before .before .before .args in
+    let tabled = c .before .before .before in let done = tabled .before .before .before in
+    let read = done .read-problem in
+    let a = begun done .args in
     problem-stopped (a .problem .now) (a .theory .now) (a .derivation .now) _ (read .result) (read .ensures) (c .before .if1 .taken) _ _ (c .refused-by .ensures)
 
 ground-read-requires : tie.Need-ground-read-requires
 ground-read-requires c κs =
-    let read = c .before .before .before .before .before .before .read-problem in
-    let pre = c .before .before .before .before .before .before .before .before .before .before .before .before .pre in
-    let a = c .before .before .before .before .before .before .before .before .before .before .before .before .args in
+    let tabled = c .before .before .before in let done = tabled .before .before .before in
+    let read = done .read-problem in
+    let pre = begun done .pre in
+    let a = begun done .args in
     let kept : length (putMid (a .layout .rows) (a .layout .names - a .layout .rows) (a .work .now) (read .last .1 .0)) ≡ length (a .work .now) = search needs in
     (rw kept (pre .0), pre .2, pre .3, problem-small (a .problem .now) (a .theory .now) (a .derivation .now) _ (read .result) (read .ensures) (c .before .if1 .left), read .ensures .few)
 
 returns-2 : tie.Need-returns-2
 returns-2 c =
-    let ground = c .before .before .ground-read in
-    let read = c .before .before .before .before .before .before .before .before .before .read-problem in
-    let start = c .before .before .before .before .before .before .before .before .before .before .before .before .before .before .before in
-    let a = start .args in
+    let grounded = c .before .before in let valid = grounded .before .before in
+    let tabled = valid .before .before in let done = tabled .before .before .before in
+    let ground = grounded .ground-read in
+    let read = done .read-problem in
+    let a = begun done .args in
     let same : length (read .last .1 .0) ≡ length (take (a .layout .names - a .layout .rows) (drop (a .layout .rows) (a .work .now))) = search needs in
-    let problem = problem-read (a .problem .now) (a .theory .now) (a .derivation .now) _ (read .result) (read .ensures) (c .before .before .before .before .if1 .left) _
-    (rows-read (a .layout) (a .work .now) (read .last .1 .0) (start .pre .0) same) in
+    let problem = problem-read (a .problem .now) (a .theory .now) (a .derivation .now) _ (read .result) (read .ensures) (valid .if1 .left) _
+    (rows-read (a .layout) (a .work .now) (read .last .1 .0) (begun done .pre .0) same) in
     ground-told (a .problem .now) (a .theory .now) (a .derivation .now) (ground .result) _ (ground .ensures problem (read .ensures .inside))
 
 pub ground-theory-spec : {M : Type 1} → statement M

@@ -9,9 +9,6 @@ use Rattle.grounding.proofs.GroundReads.{first-named}
 use Rattle.grounding.proofs.grounding.named.Statement.{statement}
 use Rattle.grounding.proofs.grounding.named.Tie as tie
 
-part-put-first-start : tie.Need-part-put-first-start
-part-put-first-start c = omega (arith, c .before .pre .0)
-
 put-first-requires : tie.Need-put-first-requires
 put-first-requires c κs =
     let start = c .before .before in
@@ -20,16 +17,12 @@ put-first-requires c κs =
     let l = length-drop (a .layout .names) (a .work .now) in
     (omega (arith, e, l, start .pre .0, start .pre .1), omega (arith, start .pre .1))
 
-cast-t12 : tie.Need-cast-t12
-cast-t12 c =
-    let start = c .before .before .before .before .before in
-    omega (arith, start .pre .1)
-
 returns : tie.Need-returns
 returns c =
-    let a = c .before .before .before .before .before .args in
-    let pre = c .before .before .before .before .before .pre in
-    rw (c .before .before .put-first .ensures) (first-named (a .layout) (a .count) (a .full) (a .work .now) (pre .0) (pre .1) (pre .2))
+    let put = c .before .before in let begun = put .before .before .before in
+    let a = begun .args in
+    let pre = begun .pre in
+    rw (put .put-first .ensures) (first-named (a .layout) (a .count) (a .full) (a .work .now) (pre .0) (pre .1) (pre .2))
 
 pub named-spec : {M : Type 1} → statement M
 named-spec =
@@ -37,9 +30,9 @@ named-spec =
     (tie.spec
     (λ c. search needs)
     (λ c. search needs)
-    part-put-first-start
+    (λ c. omega (arith, c .before .pre .0))
     (λ c. search needs)
     put-first-requires
-    cast-t12
+    (λ c. let lent = c .before in omega (arith, lent .before .before .before .before .pre .1))
     (λ c. search needs)
     returns)

@@ -22,43 +22,38 @@ module _ (start : tie.Start) where
   abbrev rows : List ℕ
   rows = rowsIn (start .args .layout) (start .args .work .now)
 
--- the derivation comes to an end
-finished : (c : tie.After-known-told)
-    → let start = c .before .before .before .before .before .before .before .before .before in
+-- where the derivation is replayed from
+abbrev begun : tie.After-replay-text → tie.Start
+begun replayed = replayed .before .before .before .before
+
+abbrev replayed : tie.After-last → tie.After-replay-text
+replayed last = last .before .before .before .before
+
+-- it comes to an end
+finished : (last : tie.After-last)
+    → let read = last .before .before .before .before in
+    let start = read .before .before .before .before in
     let a = start .args in
-    let last = c .before .last .given .0 in
-    Finished (derivationFrom (steppedIn (a .table) (rows start)) (memory start) (a .text .now)) (a .layout) (rows start) (a .text .now)
-    (last .0) (last .1 .0) (last .1 .1 .0) (last .1 .1 .1 .0) (c .before .before .before .before .before .replay-text .last .1 .0)
-finished c = rw (c .before .last .given .1) at (c .before .before .before .before .before .replay-text .ensures)
-
-end-number-requires : tie.Need-end-number-requires
-end-number-requires c κs =
-    let f = finished (c .before) in
-    let pre = c .before .before .before .before .before .before .before .before .before .before .pre in
-    omega (arith, pre .0, pre .3, f .near, f .few)
-
-add-refused-by : tie.Need-add-refused-by
-add-refused-by c =
-    let start = c .before .before .before .before .before .before .before .before .before .before .before .before in
-    omega (arith, finished (c .before .before .before) .counted, start .pre .3)
+    let n = last .last .given .0 in
+    Finished (derivationFrom (steppedIn (a .table) (rows start)) (memory start) (a .text .now)) (a .layout) (rows start) (a .text .now) (n .0) (n .1 .0) (n .1 .1 .0) (n .1 .1 .1 .0) (read .replay-text .last .1 .0)
+finished last = rw (last .last .given .1) at (last .before .before .before .before .replay-text .ensures)
 
 returns : tie.Need-returns
 returns c =
-    let start = c .before .before .before .before .before .before .before .before .before .before .before .before .before in
-    stops
-    (ended-number (start .args .table) (rows start) (memory start) (start .args .text .now) _ (finished (c .before .before .before .before) .is) _ (c .before .before .end-number .ensures) (c .before .if1 .taken)
-    ∙ refuses-as (c .refused-by .ensures))
+    let ended = c .before .before in let last = ended .before .before .before in
+    let start = begun (replayed last) in
+    stops (ended-number (start .args .table) (rows start) (memory start) (start .args .text .now) _ (finished last .is) _ (ended .end-number .ensures) (c .before .if1 .taken) ∙ refuses-as (c .refused-by .ensures))
 
 returns-2 : tie.Need-returns-2
 returns-2 c =
-    let start = c .before .before .before .before .before .before .before .before .before .before .before .before in
-    let f = finished (c .before .before .before) in
-    ends refl refl _ (ended-zero (start .args .table) (rows start) (memory start) (start .args .text .now) _ (f .is) _ (c .before .end-number .ensures) (c .if1 .left)) (f .few)
+    let last = c .before .before .before .before in let start = begun (replayed last) in
+    ends refl refl _ (ended-zero (start .args .table) (rows start) (memory start) (start .args .text .now) _ (finished last .is) _ (c .before .end-number .ensures) (c .if1 .left)) (finished last .few)
 
 returns-3 : tie.Need-returns-3
 returns-3 c =
-    let start = c .before .before .before .before .before .before .before .before .before .before in
-    let t = rw (c .before .before .number .given .1) at (c .before .before .before .before .before .before .replay-text .ensures) in
+    let numbered = c .before .before in let replayed = numbered .before .before .before .before in
+    let start = begun replayed in
+    let t = rw (numbered .number .given .1) at (replayed .replay-text .ensures) in
     stops (ended-refused (start .args .table) (rows start) (memory start) (start .args .text .now) _ t ∙ refuses-as (c .refused-by2 .ensures))
 
 pub replay-end-spec : {M : Type 1} → statement M
@@ -67,8 +62,8 @@ replay-end-spec =
     (tie.spec
     (λ c κs. search needs)
     (λ c. search needs)
-    end-number-requires
-    add-refused-by
+    (λ c κs. let last = c .before .before in let pre = begun (replayed last) .pre in omega (arith, pre .0, pre .3, finished last .near, finished last .few))
+    (λ c. let last = c .before .before .before .before in omega (arith, finished last .counted, begun (replayed last) .pre .3))
     (λ c κs. search needs)
     (λ c. search needs)
     returns
