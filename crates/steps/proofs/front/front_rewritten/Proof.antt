@@ -19,11 +19,9 @@ returns c =
 
 returns-2 : tie.Need-returns-2
 returns-2 c =
-    let if1 = c .before .before .before .before .if1 in
-    let rewrite = c .before .before .before .before .before .before .before .rewrite in
-    let start = c .before .before .before .before .before .before .before .before .before .before in
-    let made = rewrite .ensures in
-    fronted _ _ _ _ _ _ (made .holds) (made .sized) (omega (arith, if1 .left)) (start .pre .0 .room) (c .before .before .copy-back .ensures .holds)
+    let copied = c .before .before in let past-first = copied .before .before in
+    let rewritten = past-first .before .before .before in let made = rewritten .rewrite .ensures in
+    fronted _ _ _ _ _ _ (made .holds) (made .sized) (omega (arith, past-first .if1 .left)) (rewritten .before .before .before .pre .0 .room) (copied .copy-back .ensures .holds)
 
 pub front-rewritten-spec : {M : Type 1} → statement M
 front-rewritten-spec =

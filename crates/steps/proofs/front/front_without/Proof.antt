@@ -23,15 +23,16 @@ shorter c =
 
 copy-back-requires : tie.Need-copy-back-requires
 copy-back-requires c κs =
-    let start = c .before .before .before .before .before .before in
-    let same : length (c .before .before .before .without-word .last .0) ≡ length (start .args .words .now) = search needs in
-    omega (arith, start .pre, shorter (c .before .before .before), same)
+    let copied = c .before .before .before in let begun = copied .before .before .before in
+    let same : length (copied .without-word .last .0) ≡ length (begun .args .words .now) = search needs in
+    omega (arith, begun .pre, shorter copied, same)
 
 returns : tie.Need-returns
 returns c =
-    let behind = c .before .before .before .before .before .before .without-word .ensures in
-    let pre = c .before .before .before .before .before .before .before .before .before .pre in
-    (fronted _ _ _ _ _ _ (behind .holds) (behind .sized) (omega (arith, pre, shorter (c .before .before .before .before .before .before))) (pre .room) (c .before .before .copy-back .ensures .holds), shorter (c .before .before .before .before .before .before))
+    let copied = c .before .before in let copying = copied .before .before .before .before in
+    let behind = copying .without-word .ensures in
+    let pre = copying .before .before .before .pre in
+    (fronted _ _ _ _ _ _ (behind .holds) (behind .sized) (omega (arith, pre, shorter copying)) (pre .room) (copied .copy-back .ensures .holds), shorter copying)
 
 pub front-without-spec : {M : Type 1} → statement M
 front-without-spec =

@@ -34,60 +34,49 @@ here c e =
     fit-here (start .args .table) (rows start) (start .args .rule) (words start) (start .args .at)
     (λ m. let z : _≡_ {A = ℕ} 0 1 = cc (e, m, c .rule-fit .ensures) in omega arith)
 
-slice-aggregate-rule-fit : tie.Need-slice-aggregate-rule-fit
-slice-aggregate-rule-fit c = sym (words-long (c .before .before))
-
 rule-fit-requires : tie.Need-rule-fit-requires
 rule-fit-requires c κs =
     let pre = c .before .before .before .pre in
     omega (arith, pre .0, pre .1, pre .2, pre .3, words-long (c .before .before .before))
 
-slice-aggregate-misfit-of : tie.Need-slice-aggregate-misfit-of
-slice-aggregate-misfit-of c =
-    let before = c .before .before .before .before .before in
-    sym (words-long (before))
-
 misfit-of-requires : tie.Need-misfit-of-requires
 misfit-of-requires c κs =
-    let pre = c .before .before .before .before .before .pre in
-    (omega (arith, pre .0, pre .1, words-long (c .before .before .before .before .before)), here (c .before))
-
-slice-aggregate-flags-for : tie.Need-slice-aggregate-flags-for
-slice-aggregate-flags-for c =
-    let before = c .before .before .before .before .before .before .before in
-    sym (words-long (before))
+    let fitted = c .before in let begun = fitted .before .before .before .before in
+    let pre = begun .pre in
+    (omega (arith, pre .0, pre .1, words-long begun), here fitted)
 
 flags-for-requires : tie.Need-flags-for-requires
 flags-for-requires c κs =
-    let pre = c .before .before .before .before .before .before .before .before .pre in
-    (here (c .before .before .before .before), omega (arith, pre .0, pre .1, words-long (c .before .before .before .before .before .before .before .before)), pre .2)
+    let fitted = c .before .before .before .before in let begun = fitted .before .before .before .before in
+    let pre = begun .pre in
+    (here fitted, omega (arith, pre .0, pre .1, words-long begun), pre .2)
 
 returns : tie.Need-returns
 returns c =
-    let start = c .before .before .before .before .before .before .before .before .before in
-    let a = start .args in
-    let part = slice-part (a .work .now) (a .layout .rows) (a .layout .names) (omega (arith, start .pre .0)) in
-    let rest = drop (a .at) (words start) in
-    let is = c .before .before .before .before .before .rule-fit .ensures ∙ ap (λ rows. ruleFit (a .table) rows (a .rule) rest) part in
+    let unfit = c .before .before .before in let fitted = unfit .before .before in
+    let begun = fitted .before .before .before .before in let a = begun .args in
+    let part = slice-part (a .work .now) (a .layout .rows) (a .layout .names) (omega (arith, begun .pre .0)) in
+    let rest = drop (a .at) (words begun) in
+    let is = fitted .rule-fit .ensures ∙ ap (λ rows. ruleFit (a .table) rows (a .rule) rest) part in
     record {
       is = is;
-      numbered = c .before .before .before .misfit-of .ensures ∙ ap (λ d. misfit d rest) is;
-      flagged = subst (λ rows. Flagged (a .table) rows rest (c .before .before .before .before .before .rule-fit .result) (c .flags-for .result)) part (c .flags-for .ensures);
+      numbered = unfit .misfit-of .ensures ∙ ap (λ d. misfit d rest) is;
+      flagged = subst (λ rows. Flagged (a .table) rows rest (fitted .rule-fit .result) (c .flags-for .result)) part (c .flags-for .ensures);
     }
 
 pub decision-at-spec : {M : Type 1} → statement M
 decision-at-spec =
     tie.close
     (tie.spec
-    slice-aggregate-rule-fit
+    (λ c. sym (words-long (c .before .before)))
     (λ c. search needs)
     (λ c. search needs)
     (λ c. search needs)
     (λ c. search needs)
     rule-fit-requires
-    slice-aggregate-misfit-of
+    (λ c. let fitted = c .before in sym (words-long (fitted .before .before .before .before)))
     misfit-of-requires
-    slice-aggregate-flags-for
+    (λ c. let fitted = c .before .before .before in sym (words-long (fitted .before .before .before .before)))
     (λ c. search needs)
     (λ c. search needs)
     (λ c. search needs)

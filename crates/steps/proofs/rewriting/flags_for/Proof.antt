@@ -4,11 +4,6 @@ use borrow.Author.Needs.{needs}
 use Rattle.steps.proofs.rewriting.flags_for.Statement.{statement}
 use Rattle.steps.proofs.rewriting.flags_for.Tie as tie
 
-admitted-requires : tie.Need-admitted-requires
-admitted-requires c κs =
-    let pre = c .before .before .before .before .pre in
-    (pre .0 (c .enum-told3 .given .1), pre .1, pre .2)
-
 returns : tie.Need-returns
 returns c = rw (c .enum-told .given .1) tt
 
@@ -28,7 +23,7 @@ flags-for-spec =
     (λ c. search needs)
     (λ c. search needs)
     (λ c. search needs)
-    admitted-requires
+    (λ c κs. let pre = c .before .before .before .before .pre in (pre .0 (c .enum-told3 .given .1), pre .1, pre .2))
     (λ c. search needs)
     returns
     returns-2

@@ -4,11 +4,6 @@ use borrow.Author.Needs.{needs}
 use Rattle.steps.proofs.rewriting.misfit_of.Statement.{statement}
 use Rattle.steps.proofs.rewriting.misfit_of.Tie as tie
 
-guard-closed-requires : tie.Need-guard-closed-requires
-guard-closed-requires c κs =
-    let start = c .before .before .before in
-    (start .pre .1 (c .enum-told3 .given .1), start .pre .0)
-
 returns : tie.Need-returns
 returns c = rw (c .before .before .enum-told3 .given .1, ← c .before .guard-closed .ensures, c .if1 .taken)
 
@@ -31,7 +26,7 @@ misfit-of-spec =
     (λ c. search needs)
     (λ c. search needs)
     (λ c. search needs)
-    guard-closed-requires
+    (λ c κs. let start = c .before .before .before in (start .pre .1 (c .enum-told3 .given .1), start .pre .0))
     returns
     (λ c. search needs)
     returns-2

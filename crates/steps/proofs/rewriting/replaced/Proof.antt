@@ -12,9 +12,6 @@ use Rattle.steps.proofs.rewriting.replaced.Tie as tie
 front-long : (start : tie.Start) → length (take (start .args .layout .rows) (start .args .work .now)) ≡ start .args .layout .rows
 front-long start = length-take-le (start .args .layout .rows) (start .args .work .now) (omega (arith, start .pre .0))
 
-slice-aggregate-front-rewritten : tie.Need-slice-aggregate-front-rewritten
-slice-aggregate-front-rewritten c = sym (front-long (c .before .before))
-
 front-rewritten-requires : tie.Need-front-rewritten-requires
 front-rewritten-requires c κs =
     let pre = c .before .before .pre in
@@ -23,15 +20,17 @@ front-rewritten-requires c κs =
 
 returns : tie.Need-returns
 returns c =
-    let a = c .before .before .before .before .before .before .args in
-    let pre = c .before .before .before .before .before .before .pre in
-    rewritten-over (a .layout) (a .live) (a .work .now) (pre .0) (pre .1) (a .at) (pre .2) (a .fit) (take (a .domain) (a .flags)) _ _ (c .before .before .before .front-rewritten .ensures) (c .if1 .taken)
+    let rewritten = c .before .before .before in let begun = rewritten .before .before .before in
+    let a = begun .args in
+    let pre = begun .pre in
+    rewritten-over (a .layout) (a .live) (a .work .now) (pre .0) (pre .1) (a .at) (pre .2) (a .fit) (take (a .domain) (a .flags)) _ _ (rewritten .front-rewritten .ensures) (c .if1 .taken)
 
 returns-2 : tie.Need-returns-2
 returns-2 c =
-    let front = c .before .before .before .front-rewritten in
-    let a = c .before .before .before .before .before .before .args in
-    let pre = c .before .before .before .before .before .before .pre in
+    let rewritten = c .before .before .before in let begun = rewritten .before .before .before in
+    let front = rewritten .front-rewritten in
+    let a = begun .args in
+    let pre = begun .pre in
     let same : length (front .last .0) ≡ length (take (a .layout .rows) (a .work .now)) = search needs in
     rewritten-moved (a .layout) (a .live) (a .work .now) (pre .0) (pre .1) (a .at) (pre .2) (a .fit) (take (a .domain) (a .flags)) _ _ (front .ensures) same (c .if1 .left)
 
@@ -40,7 +39,7 @@ replaced-spec =
     tie.close
     (tie.spec
     (λ c. search needs)
-    slice-aggregate-front-rewritten
+    (λ c. sym (front-long (c .before .before)))
     front-rewritten-requires
     (λ c. search needs)
     returns

@@ -20,30 +20,22 @@ module _ (start : tie.Start) where
   abbrev position : Position
   position = positionAt (start .args .text .now) (start .args .name) (start .args .path) (start .args .steps)
 
--- the target is found
-aimed : (c : tie.After-known-told) → let start = c .before .before .before .before .before .before .before in let place = c .before .at .given .0 in ToldTarget (targetIn (memory start) (position start)) (start .args .live) (target.At (place .0) (place .1 .0))
-aimed c = rw (c .before .at .given .1) at (c .before .before .before .path-target .ensures)
+abbrev begun : tie.After-at → tie.Start
+begun found = found .before .before .before .before .before .before
 
-path-target-requires : tie.Need-path-target-requires
-path-target-requires c κs =
-    let pre = c .before .before .before .pre in
-    omega (arith, pre .0, pre .1, pre)
+-- the target is found
+aimed : (c : tie.After-known-told) → let start = begun (c .before) in let place = c .before .at .given .0 in ToldTarget (targetIn (memory start) (position start)) (start .args .live) (target.At (place .0) (place .1 .0))
+aimed c = rw (c .before .at .given .1) at (c .before .before .before .path-target .ensures)
 
 returns : tie.Need-returns
 unfolding rewrittenIn
 returns c = rw (aimed (c .before) .0, c .if1 .taken)
 
-rewritten-at-requires : tie.Need-rewritten-at-requires
-rewritten-at-requires c κs =
-    let pre = c .before .before .before .before .before .before .before .before .before .pre in
-    (pre .0, pre .1, omega (arith, aimed (c .before .before) .1 .1), pre .2)
-
 returns-2 : tie.Need-returns-2
 unfolding rewrittenIn
 returns-2 c =
-    let before = c .before .before .before .before .before in
-    let if1 = c .before .before .before .before .if1 in
-    rw (aimed (before) .0, ap not (if1 .left)) (c .before .before .rewritten-at .ensures)
+    let rewritten = c .before .before in let past-first = rewritten .before .before in
+    rw (aimed (past-first .before) .0, ap not (past-first .if1 .left)) (rewritten .rewritten-at .ensures)
 
 returns-3 : tie.Need-returns-3
 unfolding rewrittenIn
@@ -56,11 +48,11 @@ pub rewritten-spec : {M : Type 1} → statement M
 rewritten-spec =
     tie.close
     (tie.spec
-    path-target-requires
+    (λ c κs. let pre = c .before .before .before .pre in omega (arith, pre .0, pre .1, pre))
     (λ c. search needs)
     (λ c. search needs)
     returns
-    rewritten-at-requires
+    (λ c κs. let pre = begun (c .before .before .before) .pre in (pre .0, pre .1, omega (arith, aimed (c .before .before) .1 .1), pre .2))
     (λ c. search needs)
     (λ c. search needs)
     returns-2

@@ -32,23 +32,24 @@ module _ (c : tie.Else1) where
 
 returns : tie.Need-returns
 returns c =
-    let start = c .before .before .before .before .before in
-    made-refused (start .args .table) (rows start) (start .args .rule) (memory start) (start .args .at) _ (c .before .before .decision-at .ensures .numbered) (c .if1 .taken)
+    let decided = c .before .before in let begun = decided .before .before .before in
+    made-refused (begun .args .table) (rows begun) (begun .args .rule) (memory begun) (begun .args .at) _ (decided .decision-at .ensures .numbered) (c .if1 .taken)
 
 replaced-requires : tie.Need-replaced-requires
 replaced-requires c κs =
-    let start = c .before .before .before .before .before .before .before in
-    let pre = start .pre in
-    let long = length-take-le (start .args .live .full) (start .args .work .now) (omega (arith, pre .0, pre .1)) in
-    let here = fit-here (start .args .table) (rows start) (start .args .rule) (memory start .words) (start .args .at)
-    (λ m. let z : _≡_ {A = ℕ} 13 0 = rw m at (fits (c .before .before)) in omega arith) in
+    let past-first = c .before .before in let decided = past-first .before .before in
+    let begun = decided .before .before .before in let pre = begun .pre in
+    let long = length-take-le (begun .args .live .full) (begun .args .work .now) (omega (arith, pre .0, pre .1)) in
+    let here = fit-here (begun .args .table) (rows begun) (begun .args .rule) (memory begun .words) (begun .args .at)
+    (λ m. let z : _≡_ {A = ℕ} 13 0 = rw m at (fits past-first) in omega arith) in
     (pre .0, pre .1, omega (arith, here, long), pre .3)
 
 returns-2 : tie.Need-returns-2
 returns-2 c =
-    let start = c .before .before .before .before .before .before .before .before .before .before in
-    let decided = c .before .before .before .before .before .before .before .decision-at .ensures in
-    rw (made-fits (start .args .table) (rows start) (start .args .rule) (memory start) (start .args .at) _ _ (decided .is) (fits (c .before .before .before .before .before)) (decided .flagged)) (c .before .before .replaced .ensures)
+    let replacing = c .before .before in let past-first = replacing .before .before .before in
+    let decision-at-done = past-first .before .before in let begun = decision-at-done .before .before .before in
+    let decided = decision-at-done .decision-at .ensures in
+    rw (made-fits (begun .args .table) (rows begun) (begun .args .rule) (memory begun) (begun .args .at) _ _ (decided .is) (fits past-first) (decided .flagged)) (replacing .replaced .ensures)
 
 pub rewritten-at-spec : {M : Type 1} → statement M
 rewritten-at-spec =

@@ -30,65 +30,53 @@ module _ (start : tie.Start) where
   names-long : length (memory .names) ≡ start .args .live .count
   names-long = region-length (start .args .work .now) (start .args .names) (start .args .live .count) (omega (arith, start .pre))
 
+abbrev begun : tie.Else1 → tie.Start
+begun other = other .before .before .before .before .before
+
 -- the index is at most the count of names
 few : (c : tie.After-index-of) → c .index-of .result ≤ c .before .before .before .args .live .count
 few c = omega (arith, index-few (c .before .before .before .args .name) (memory (c .before .before .before) .names), names-long (c .before .before .before), c .index-of .ensures)
 
 -- the target, by the place where the path ends
-walked : (c : tie.After-walk) → let start = c .before .before .before .before .before .before .before .before .before in targetIn (memory start) (position start) ≡ mapped (λ at. (c .before .before .before .before .before .before .index-of .result, at)) (reached (c .walk .result))
+walked : (c : tie.After-walk)
+    → let other = c .before .before .before .before in
+    let start = begun other in
+    targetIn (memory start) (position start) ≡ mapped (λ at. (other .before .before .index-of .result, at)) (reached (c .walk .result))
 walked c =
-    let start = c .before .before .before .before .before .before .before .before .before in
-    target-place (memory start) (position start) _ (c .before .before .before .before .before .before .index-of .ensures) (λ e. c .before .before .before .before .if1 .left (e ∙ names-long start)) _ (c .before .before .past .ensures .0) _ (c .walk .ensures .0)
-
-index-of-requires : tie.Need-index-of-requires
-index-of-requires c κs = omega (arith, c .before .before .pre)
+    let other = c .before .before .before .before in let start = begun other in
+    target-place (memory start) (position start) _ (other .before .before .index-of .ensures) (λ e. other .if1 .left (e ∙ names-long start)) _ (c .before .before .past .ensures .0) _ (c .walk .ensures .0)
 
 returns : tie.Need-returns
 returns c =
-    let start = c .before .before .before .before .before in
-    target-missing (memory start) (position start) _ (c .before .before .index-of .ensures) (c .if1 .taken ∙ sym (names-long start))
-
-slice-aggregate-past : tie.Need-slice-aggregate-past
-slice-aggregate-past c =
-    let before = c .before .before .before .before .before .before in
-    sym (words-long (before))
+    let indexed = c .before .before in let here = indexed .before .before .before in
+    target-missing (memory here) (position here) _ (indexed .index-of .ensures) (c .if1 .taken ∙ sym (names-long here))
 
 past-requires : tie.Need-past-requires
 past-requires c κs =
-    let start = c .before .before .before .before .before .before in
-    omega (arith, start .pre, start .pre .1, words-long start, few (c .before .before .before))
-
-slice-aggregate-walk : tie.Need-slice-aggregate-walk
-slice-aggregate-walk c =
-    let before = c .before .before .before .before .before .before .before .before in
-    sym (words-long (before))
+    let indexed = c .before .before .before in let here = indexed .before .before .before in
+    omega (arith, here .pre, here .pre .1, words-long here, few indexed)
 
 walk-requires : tie.Need-walk-requires
-walk-requires c κs =
-    let start = c .before .before .before .before .before .before .before .before in
-    omega (arith, start .pre, words-long start, c .before .past .ensures .1)
+walk-requires c κs = omega (arith, begun (c .before .before .before) .pre, words-long (begun (c .before .before .before)), c .before .past .ensures .1)
 
 returns-2 : tie.Need-returns-2
 returns-2 c =
-    let walk = c .before .before .before in
-    let start = c .before .before .before .before .before .before .before .before .before .before .before .before in
-    let near = subst (Within (length (memory start .words))) (c .before .at .given .1) (walk .walk .ensures .1) in
-    (walked walk ∙ rw (c .before .at .given .1), (omega (arith, few (c .before .before .before .before .before .before .before .before .before), c .before .before .before .before .before .before .before .if1 .left), omega (arith, near, words-long start)))
-
-returns-3 : tie.Need-returns-3
-returns-3 c = walked (c .before .before) ∙ rw (c .enum-told .given .1)
+    let walk = c .before .before .before in let other = walk .before .before .before .before in
+    let indexed = other .before .before in let here = indexed .before .before .before in
+    let near = subst (Within (length (memory here .words))) (c .before .at .given .1) (walk .walk .ensures .1) in
+    (walked walk ∙ rw (c .before .at .given .1), (omega (arith, few indexed, other .if1 .left), omega (arith, near, words-long here)))
 
 pub path-target-spec : {M : Type 1} → statement M
 path-target-spec =
     tie.close
     (tie.spec
-    index-of-requires
+    (λ c κs. omega (arith, c .before .before .pre))
     returns
-    slice-aggregate-past
+    (λ c. sym (words-long (begun (c .before))))
     past-requires
-    slice-aggregate-walk
+    (λ c. sym (words-long (begun (c .before .before .before))))
     walk-requires
     (λ c. search needs)
     (λ c. search needs)
     returns-2
-    returns-3)
+    (λ c. walked (c .before .before) ∙ rw (c .enum-told .given .1)))

@@ -21,22 +21,20 @@ module _ (start : tie.Start) where
   abbrev position : Position
   position = positionAt (start .args .text .now) (start .args .name) (start .args .path) (start .args .steps)
 
+abbrev begun : tie.After-index → tie.Start
+begun index-told = index-told .before .before .before .before .before
+
 -- the path's target is found
-aimed : (c : tie.After-known-told) → let start = c .before .before .before .before .before .before in let place = c .before .index .given .0 in ToldTarget (targetIn (memory start) (position start)) (start .args .live) (target.At (place .0) (place .1 .0))
+aimed : (c : tie.After-known-told) → let start = begun (c .before) in let place = c .before .index .given .0 in ToldTarget (targetIn (memory start) (position start)) (start .args .live) (target.At (place .0) (place .1 .0))
 aimed c = rw (c .before .index .given .1) at (c .before .before .before .path-target .ensures)
 
 -- the path is empty
-no-steps : (c : tie.Else1) → isEmpty (position (c .before .before .before .before .before .before .before) .path) ≡ true
-no-steps c = steps-none (c .before .before .before .before .before .before .before .args .text .now) (c .before .before .before .before .before .before .before .args .path) (c .before .before .before .before .before .before .before .args .steps) (c .if1 .left)
-
-path-target-requires : tie.Need-path-target-requires
-path-target-requires c κs = c .before .before .pre
+no-steps : (c : tie.Else1) → isEmpty (position (begun (c .before .before)) .path) ≡ true
+no-steps c = steps-none (begun (c .before .before) .args .text .now) (begun (c .before .before) .args .path) (begun (c .before .before) .args .steps) (c .if1 .left)
 
 returns : tie.Need-returns
 unfolding wholeIn
-returns c =
-    let start = c .before .before .before .before .before .before .before in
-    rw (aimed (c .before) .0, steps-some (start .args .text .now) (start .args .path) (start .args .steps) (c .if1 .taken))
+returns c = rw (aimed (c .before) .0, steps-some (begun (c .before .before) .args .text .now) (begun (c .before .before) .args .path) (begun (c .before .before) .args .steps) (c .if1 .taken))
 
 returns-2 : tie.Need-returns-2
 unfolding wholeIn
@@ -57,7 +55,7 @@ pub whole-target-spec : {M : Type 1} → statement M
 whole-target-spec =
     tie.close
     (tie.spec
-    path-target-requires
+    (λ c κs. c .before .before .pre)
     (λ c. search needs)
     returns
     returns-2

@@ -17,8 +17,8 @@ returns-2 c =
 
 returns-7 : tie.Need-returns-7
 returns-7 c =
-    let sign = c .before .before .before .sign in
-    rw (sign .given .1, not-false (sign .given .0 .0) (c .before .if1 .left), ne-eqb (c .before .before .before .before .before .args .many) 0 (c .if2 .left))
+    let signed = c .before .before .before in let sign = signed .sign in
+    rw (sign .given .1, not-false (sign .given .0 .0) (c .before .if1 .left), ne-eqb (signed .before .before .args .many) 0 (c .if2 .left))
 
 pub is-conjunction-spec : {M : Type 1} → statement M
 is-conjunction-spec =

@@ -12,25 +12,10 @@ use Rattle.steps.proofs.whole.is_split.Tie as tie
 told : (c : tie.After-kind-of) (kind : Kind) → c .kind-of .result ≡ kind → isSplit kind (c .before .args .many) ≡ isSplit (kindOf (c .before .args .word)) (c .before .args .many)
 told c kind e = ap (λ k. isSplit k (c .before .args .many)) (sym e ∙ c .kind-of .ensures)
 
-returns : tie.Need-returns
-returns c = told (c .before .before) _ (c .enum-told .given .1)
-
-returns-2 : tie.Need-returns-2
-returns-2 c = told (c .before .before) _ (c .enum-told2 .given .1)
-
-returns-3 : tie.Need-returns-3
-returns-3 c = told (c .before .before) _ (c .enum-told3 .given .1)
-
 returns-4 : tie.Need-returns-4
 returns-4 c =
     let before = c .before .before .before .before in
-    c .is-conjunction .ensures ∙ told (before) _ (c .before .before .sign .given .1)
-
-returns-5 : tie.Need-returns-5
-returns-5 c = told (c .before .before) _ (c .enum-told4 .given .1)
-
-returns-6 : tie.Need-returns-6
-returns-6 c = told (c .before .before) _ (c .enum-told5 .given .1)
+    c .is-conjunction .ensures ∙ told before _ (c .before .before .sign .given .1)
 
 pub is-split-spec : {M : Type 1} → statement M
 is-split-spec =
@@ -44,9 +29,9 @@ is-split-spec =
     (λ c κs. search needs)
     (λ c. search needs)
     (λ c. search needs)
-    returns
-    returns-2
-    returns-3
+    (λ c. told (c .before .before) _ (c .enum-told .given .1))
+    (λ c. told (c .before .before) _ (c .enum-told2 .given .1))
+    (λ c. told (c .before .before) _ (c .enum-told3 .given .1))
     returns-4
-    returns-5
-    returns-6)
+    (λ c. told (c .before .before) _ (c .enum-told4 .given .1))
+    (λ c. told (c .before .before) _ (c .enum-told5 .given .1)))

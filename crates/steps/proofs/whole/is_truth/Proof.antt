@@ -17,28 +17,13 @@ returns : tie.Need-returns
 returns c =
     let b = c .before .before .b in
     let before = c .before .before .before .before in
-    rw (← told (before) _ (b .given .1), c .if1 .taken) (beq-true (b .given .0 .0))
+    rw (← told before _ (b .given .1), c .if1 .taken) (beq-true (b .given .0 .0))
 
 returns-2 : tie.Need-returns-2
 returns-2 c =
     let b = c .before .before .b in
     let before = c .before .before .before .before in
-    rw (← told (before) _ (b .given .1), c .if1 .left) (beq-false (b .given .0 .0))
-
-returns-3 : tie.Need-returns-3
-returns-3 c = told (c .before .before) _ (c .enum-told .given .1)
-
-returns-4 : tie.Need-returns-4
-returns-4 c = told (c .before .before) _ (c .enum-told2 .given .1)
-
-returns-5 : tie.Need-returns-5
-returns-5 c = told (c .before .before) _ (c .enum-told3 .given .1)
-
-returns-6 : tie.Need-returns-6
-returns-6 c = told (c .before .before) _ (c .enum-told4 .given .1)
-
-returns-7 : tie.Need-returns-7
-returns-7 c = told (c .before .before) _ (c .enum-told5 .given .1)
+    rw (← told before _ (b .given .1), c .if1 .left) (beq-false (b .given .0 .0))
 
 pub is-truth-spec : {M : Type 1} → statement M
 is-truth-spec =
@@ -53,8 +38,8 @@ is-truth-spec =
     (λ c. search needs)
     (λ c. search needs)
     returns-2
-    returns-3
-    returns-4
-    returns-5
-    returns-6
-    returns-7)
+    (λ c. told (c .before .before) _ (c .enum-told .given .1))
+    (λ c. told (c .before .before) _ (c .enum-told2 .given .1))
+    (λ c. told (c .before .before) _ (c .enum-told3 .given .1))
+    (λ c. told (c .before .before) _ (c .enum-told4 .given .1))
+    (λ c. told (c .before .before) _ (c .enum-told5 .given .1)))

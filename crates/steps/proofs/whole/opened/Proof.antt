@@ -16,9 +16,6 @@ front-long start = length-take-le (start .args .layout .rows) (start .args .work
 same : (c : tie.After-front-without) → length (c .front-without .last .0) ≡ length (take (c .before .before .before .before .args .layout .rows) (c .before .before .before .before .args .work .now))
 same c = search needs
 
-slice-aggregate-front-without : tie.Need-slice-aggregate-front-without
-slice-aggregate-front-without c = sym (front-long (c .before .before .before))
-
 front-without-requires : tie.Need-front-without-requires
 front-without-requires c κs =
     let pre = c .before .before .before .pre in
@@ -27,17 +24,19 @@ front-without-requires c κs =
 
 with-names-requires : tie.Need-with-names-requires
 with-names-requires c κs =
-    let a = c .before .before .before .before .before .before .before .args in
-    let pre = c .before .before .before .before .before .before .before .pre in
-    (names-roomy (a .layout) (a .live) (a .work .now) (pre .0) (pre .1) (a .index) (a .at) (pre .2) (pre .3) (c .before .before .before .front-without .last .0) (same (c .before .before .before)), pre .5, pre .6, omega (arith, pre .0, pre .4))
+    let front-copied = c .before .before .before in let begun = front-copied .before .before .before .before in
+    let a = begun .args in
+    let pre = begun .pre in
+    (names-roomy (a .layout) (a .live) (a .work .now) (pre .0) (pre .1) (a .index) (a .at) (pre .2) (pre .3) (front-copied .front-without .last .0) (same front-copied), pre .5, pre .6, omega (arith, pre .0, pre .4))
 
 returns : tie.Need-returns
 returns c =
-    let front = c .before .before .before .before .before .before .front-without in
-    let names = c .before .before .with-names in
-    let a = c .before .before .before .before .before .before .before .before .before .before .args in
-    let pre = c .before .before .before .before .before .before .before .before .before .before .pre in
-    opened-moved (a .layout) (a .live) (a .work .now) (pre .0) (pre .1) (a .index) (a .at) (pre .2) (pre .3) (front .last .0) (same (c .before .before .before .before .before .before)) _ (front .ensures .0) (front .ensures .1)
+    let named = c .before .before in let front-copied = named .before .before .before .before in
+    let begun = front-copied .before .before .before .before in let front = front-copied .front-without in
+    let names = named .with-names in
+    let a = begun .args in
+    let pre = begun .pre in
+    opened-moved (a .layout) (a .live) (a .work .now) (pre .0) (pre .1) (a .index) (a .at) (pre .2) (pre .3) (front .last .0) (same front-copied) _ (front .ensures .0) (front .ensures .1)
     _ _ _ _ (names .ensures .0) (names .ensures .1)
 
 pub opened-spec : {M : Type 1} → statement M
@@ -45,7 +44,7 @@ opened-spec =
     tie.close
     (tie.spec
     (λ c. search needs)
-    slice-aggregate-front-without
+    (λ c. sym (front-long (c .before .before .before)))
     front-without-requires
     (λ c. search needs)
     (λ c. search needs)

@@ -6,11 +6,6 @@ use Rattle.steps.specs.memory.Held.{refutedIn}
 use Rattle.steps.proofs.whole.refuted.Statement.{statement}
 use Rattle.steps.proofs.whole.refuted.Tie as tie
 
-value-target-requires : tie.Need-value-target-requires
-value-target-requires c κs =
-    let start = c .before .before .before in
-    omega (arith, start .pre .0, start .pre .1, start .pre)
-
 returns : tie.Need-returns
 unfolding refutedIn
 returns c =
@@ -29,7 +24,7 @@ pub refuted-spec : {M : Type 1} → statement M
 refuted-spec =
     tie.close
     (tie.spec
-    value-target-requires
+    (λ c κs. let start = c .before .before .before in omega (arith, start .pre .0, start .pre .1, start .pre))
     (λ c. search needs)
     (λ c κs. search needs)
     (λ c. search needs)

@@ -31,11 +31,6 @@ module _ (c : tie.After-index) where
   aimed : let place = c .index .given .0 in ToldTarget (valueIn true (memory begun) (position begun)) (begun .args .live) (target.At (place .0) (place .1 .0))
   aimed = rw (c .index .given .1) at (c .before .before .value-target .ensures)
 
-value-target-requires : tie.Need-value-target-requires
-value-target-requires c κs =
-    let start = c .before .before .before in
-    omega (arith, start .pre .0, start .pre .1, start .pre)
-
 opened-requires : tie.Need-opened-requires
 opened-requires c κs =
     let found = c .before .before in
@@ -63,7 +58,7 @@ pub removed-spec : {M : Type 1} → statement M
 removed-spec =
     tie.close
     (tie.spec
-    value-target-requires
+    (λ c κs. let start = c .before .before .before in omega (arith, start .pre .0, start .pre .1, start .pre))
     (λ c. search needs)
     opened-requires
     (λ c. search needs)

@@ -40,8 +40,11 @@ module _ (start : tie.Start) where
   live-counted : length (memory .names) ≡ start .args .live .count
   live-counted = region-length (start .args .work .now) (start .args .layout .names) (start .args .live .count) (omega (arith, start .pre .0, start .pre .1))
 
+abbrev the-begun : tie.After-top → tie.Start
+the-begun top-told = top-told .before .before .before .before .before
+
 -- the names climb
-climbed : (c : tie.After-known-told) → let start = c .before .before .before .before .before .before in ToldClimb (start .args .live .top) (names start) (To (c .before .top .given .0 .0))
+climbed : (c : tie.After-known-told) → let start = the-begun (c .before) in ToldClimb (start .args .live .top) (names start) (To (c .before .top .given .0 .0))
 climbed c = rw (c .before .top .given .1) at (c .before .before .before .climbs .ensures)
 
 -- the target is found, and whether it splits is told
@@ -58,18 +61,13 @@ module _ (c : tie.After-is-split) where
   parts : (b : Bool) → c .is-split .result ≡ b → isSplit (kindOf (getD (memory begun .words) (c .before .before .before .before .index .given .0 .1 .0) 0)) (length (names begun)) ≡ b
   parts b e = rw (names-counted begun, ← c .before .word-at .ensures, ← c .is-split .ensures) e
 
-climbs-requires : tie.Need-climbs-requires
-climbs-requires c κs = omega (arith, c .before .before .pre)
-
 whole-target-requires : tie.Need-whole-target-requires
-whole-target-requires c κs =
-    let start = c .before .before .before .before .before .before .before in
-    omega (arith, start .pre .0, start .pre .1, start .pre)
+whole-target-requires c κs = omega (arith, the-begun (c .before .before) .pre .0, the-begun (c .before .before) .pre .1, the-begun (c .before .before) .pre)
 
 word-at-requires : tie.Need-word-at-requires
 word-at-requires c κs =
-    let start = c .before .before .before .before .before .before .before .before .before .before .before .before in
-    omega (arith, start .pre .0, start .pre .1)
+    let target-found = c .before .before .before .before in
+    omega (arith, the-begun (target-found .before .before .before) .pre .0, the-begun (target-found .before .before .before) .pre .1)
 
 returns : tie.Need-returns
 unfolding splitIn
@@ -94,17 +92,17 @@ opened-requires c κs =
 returns-3 : tie.Need-returns-3
 unfolding splitIn
 returns-3 c =
-    let tested = c .before .before .before .before .before .before .before in
-    let few : length (memory (begun tested) .names) + length (names (begun tested)) ≤ 1025 = omega (arith, live-counted (begun tested), names-counted (begun tested), c .before .before .before .before .if2 .left) in
-    rw (climbed-here tested .0, aimed tested .0, parts tested true (not-false _ (c .before .before .before .before .before .before .if1 .left)), le-leb _ 1025 few, climbed-here tested .1) (c .before .before .opened .ensures)
+    let opening = c .before .before in let past-second = opening .before .before in
+    let past-first = past-second .before .before in let tested = past-first .before in
+    let few : length (memory (begun tested) .names) + length (names (begun tested)) ≤ 1025 = omega (arith, live-counted (begun tested), names-counted (begun tested), past-second .if2 .left) in
+    rw (climbed-here tested .0, aimed tested .0, parts tested true (not-false _ (past-first .if1 .left)), le-leb _ 1025 few, climbed-here tested .1) (opening .opened .ensures)
 
 returns-4 : tie.Need-returns-4
 unfolding splitIn
 returns-4 c =
-    let whole-target = c .before .before .before .whole-target in
-    let before = c .before .before .before .before .before in
-    let t = rw (c .before .number .given .1) at (whole-target .ensures) in
-    rw (climbed (before) .0, t)
+    let target-found = c .before .before .before in
+    let t = rw (c .before .number .given .1) at (target-found .whole-target .ensures) in
+    rw (climbed (target-found .before .before) .0, t)
 
 returns-5 : tie.Need-returns-5
 unfolding splitIn
@@ -116,7 +114,7 @@ pub split-spec : {M : Type 1} → statement M
 split-spec =
     tie.close
     (tie.spec
-    climbs-requires
+    (λ c κs. omega (arith, c .before .before .pre))
     (λ c. search needs)
     whole-target-requires
     (λ c. search needs)
