@@ -16,12 +16,6 @@ Inv-loop work₀ count i₀ work i = (i ≤ count) × (length work ≡ length wo
 abbrev μ-loop : tie.MeasureT-loop
 μ-loop work₀ count i₀ work i = count - i
 
-loop-holds : tie.Need-loop-holds Inv-loop μ-loop
-loop-holds c = (omega arith, refl, refl)
-
-slice-write-work : tie.Need-slice-write-work Inv-loop μ-loop
-slice-write-work c = omega (arith, c .before .loop .inv .1)
-
 loop-again : tie.Need-loop-again Inv-loop μ-loop
 loop-again c =
     let l = c .before .loop in
@@ -30,9 +24,6 @@ loop-again c =
       length-set (l .work) (l .i) 0 ∙ l .inv .1,
       rw (l .inv .2) (cleared-more (start .args .work .now) (l .i) (omega (arith, start .pre))),
     )
-
-same-length : tie.Need-same-length Inv-loop μ-loop
-same-length c = c .before .loop .inv .1
 
 returns : tie.Need-returns Inv-loop μ-loop
 returns c =
@@ -46,11 +37,11 @@ clear-spec =
     (tie.spec
     Inv-loop
     μ-loop
-    loop-holds
+    (λ c. (omega arith, refl, refl))
     (λ c. search needs)
-    slice-write-work
+    (λ c. omega (arith, c .before .loop .inv .1))
     (λ c. search needs)
     (λ c. search needs)
     loop-again
-    same-length
+    (λ c. c .before .loop .inv .1)
     returns)

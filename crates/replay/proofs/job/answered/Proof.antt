@@ -9,33 +9,29 @@ use Rattle.replay.proofs.Concluding.{answer-little, answer-enough}
 use Rattle.replay.proofs.job.answered.Statement.{statement}
 use Rattle.replay.proofs.job.answered.Tie as tie
 
+abbrev begun : tie.Else1 → tie.Start
+begun past-first = past-first .before .before .before .before .before .before .before
+
 -- working memory is long enough
-long : (c : tie.Else1) → let a = c .before .before .before .before .before .before .before .args in length (take (a .size) (a .work .now)) ≡ a .size
-long c = length-take-le (c .before .before .before .before .before .before .before .args .size) (c .before .before .before .before .before .before .before .args .work .now) (omega (arith, c .if1 .left))
+long : (c : tie.Else1) → let a = begun c .args in length (take (a .size) (a .work .now)) ≡ a .size
+long c = length-take-le (begun c .args .size) (begun c .args .work .now) (omega (arith, c .if1 .left))
 
 returns : tie.Need-returns
 returns c =
-    let start = c .before .before .before .before .before .before .before .before in
-    let a = start .args in
-    answer-little (a .compare) (a .problem .now) (a .theory .now) (a .derivation .now) (a .claim .now) (a .output .now) (a .work .now) _ (omega (arith, c .before .if1 .taken, start .pre)) (c .refused .ensures)
-
-slice-aggregate-judged-short : tie.Need-slice-aggregate-judged-short
-slice-aggregate-judged-short c = sym (long (c .before .before))
-
-judged-short-requires : tie.Need-judged-short-requires
-judged-short-requires c κs =
-    let start = c .before .before .before .before .before .before .before .before .before in
-    long (c .before .before) ∙ start .pre
+    let known = c .before .before .before .before in
+    let here = known .before .before .before .before in let a = here .args in
+    answer-little (a .compare) (a .problem .now) (a .theory .now) (a .derivation .now) (a .claim .now) (a .output .now) (a .work .now) _ (omega (arith, c .before .if1 .taken, here .pre)) (c .refused .ensures)
 
 returns-2 : tie.Need-returns-2
 returns-2 c =
-    let judged = c .before .before .before .before .before .before .before .before .judged-short in
-    let start = c .before .before .before .before .before .before .before .before .before .before .before .before .before .before .before .before .before .before in
-    let a = start .args in
+    let cleared = c .before .before in let lent = cleared .before .before .before in
+    let judging = lent .before .before .before in let past-first = judging .before .before .before in
+    let judged = judging .judged-short in
+    let a = begun past-first .args in
     let part = judged .last .1 .1 .1 .1 .1 .1 .0 in
     let same : length part ≡ length (take (a .size) (a .work .now)) = search needs in
-    answer-enough (a .compare) (a .problem .now) (a .theory .now) (a .derivation .now) (a .claim .now) (a .output .now) (a .work .now) _ (a .size) (start .pre) (omega (arith, c .before .before .before .before .before .before .before .before .before .before .before .if1 .left))
-    part _ _ (same ∙ long (c .before .before .before .before .before .before .before .before .before .before .before)) (judged .ensures) (c .before .before .clear .ensures)
+    answer-enough (a .compare) (a .problem .now) (a .theory .now) (a .derivation .now) (a .claim .now) (a .output .now) (a .work .now) _ (a .size) (begun past-first .pre) (omega (arith, past-first .if1 .left))
+    part _ _ (same ∙ long past-first) (judged .ensures) (cleared .clear .ensures)
 
 pub answered-spec : {M : Type 1} → statement M
 answered-spec =
@@ -44,8 +40,8 @@ answered-spec =
     (λ c κs. search needs)
     returns
     (λ c. search needs)
-    slice-aggregate-judged-short
-    judged-short-requires
+    (λ c. sym (long (c .before .before)))
+    (λ c κs. let past-first = c .before .before in long past-first ∙ begun past-first .pre)
     (λ c κs. search needs)
     (λ c. search needs)
     (λ c. search needs)

@@ -7,9 +7,10 @@ use Rattle.replay.proofs.job.check.Tie as tie
 
 returns : tie.Need-returns
 returns c =
-    let answered = c .before .before .before .before .answered in
-    let a = c .before .before .before .before .before .before .before .before .before .before .before .before .before .args in
-    check-promised (a .problem .now) (a .theory .now) (a .derivation .now) (a .output .now) (a .work .now) _ _ _ (a .claim .now) (answered .ensures)
+    let answering = c .before .before .before .before in let asked = answering .before in
+    let known = asked .before .before .before .before in
+    let a = known .before .before .before .before .args in
+    check-promised (a .problem .now) (a .theory .now) (a .derivation .now) (a .output .now) (a .work .now) _ _ _ (a .claim .now) (answering .answered .ensures)
 
 pub check-spec : {M : Type 1} → statement M
 check-spec = tie.close (tie.spec (λ c κs. search needs) (λ c. search needs) (λ c. search needs) returns)

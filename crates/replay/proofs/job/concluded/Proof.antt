@@ -9,26 +9,21 @@ use Rattle.replay.proofs.job.concluded.Tie as tie
 
 returns : tie.Need-returns
 returns c =
-    let printed = c .before .before .before .before .before .printed in
-    conclude-long (printed .ensures) (c .before .if1 .taken) (c .refused .ensures)
+    let too-long = c .before in
+    conclude-long (too-long .before .before .before .before .printed .ensures) (c .before .if1 .taken) (c .refused .ensures)
 
 returns-2 : tie.Need-returns-2
 returns-2 c =
-    let if1 = c .before .before .before .if1 in
-    let printed = c .before .before .before .before .before .before .before .printed in
-    let counted = printed .ensures in
-    conclude-other counted (c .before .before .agrees .ensures) (omega (arith, if1 .left)) (not-true _ (c .before .if2 .taken)) (c .refused2 .ensures)
+    let agreed = c .before .before in let printable = agreed .before in
+    let printing = printable .before .before .before .before in
+    conclude-other (printing .printed .ensures) (agreed .agrees .ensures) (omega (arith, printable .if1 .left)) (not-true _ (c .before .if2 .taken)) (c .refused2 .ensures)
 
 returns-3 : tie.Need-returns-3
 returns-3 c =
-    let printed2 = c .before .before .before .printed2 in
-    let if2 = c .before .before .before .before .before .if2 in
-    let agrees = c .before .before .before .before .before .before .agrees in
-    let if1 = c .before .before .before .before .before .before .before .if1 in
-    let printed = c .before .before .before .before .before .before .before .before .before .before .before .printed in
-    let counted = printed .ensures in
-    let stored = printed2 .ensures in
-    conclude-all counted (agrees .ensures) (omega (arith, if1 .left)) (not-false _ (if2 .left)) stored (c .accepted .ensures)
+    let second-printing = c .before .before .before in let same = second-printing .before .before in
+    let agreed = same .before in let printable = agreed .before in
+    let printing = printable .before .before .before .before in
+    conclude-all (printing .printed .ensures) (agreed .agrees .ensures) (omega (arith, printable .if1 .left)) (not-false _ (same .if2 .left)) (second-printing .printed2 .ensures) (c .accepted .ensures)
 
 pub concluded-spec : {M : Type 1} → statement M
 concluded-spec =

@@ -13,8 +13,14 @@ use Rattle.replay.proofs.Concluding.{judged-refused, judged-concluded}
 use Rattle.replay.proofs.job.judged.Statement.{statement}
 use Rattle.replay.proofs.job.judged.Tie as tie
 
+abbrev begun : tie.After-layout → tie.Start
+begun laid = laid .before .before .before .before .before .before .before .before
+
 -- the ground theory is found: its words stand within memory
 module _ (c : tie.Else1) where
+  abbrev start : tie.Start
+  start = begun (c .before .before .before .before .before)
+
   abbrev ground : Grounded
   ground = c .before .before .before .before .ground-theory .result
 
@@ -26,58 +32,46 @@ module _ (c : tie.Else1) where
 
   within : ground .live .full ≤ length left
   within =
-      let same : length left ≡ length (c .before .before .before .before .before .before .before .before .before .before .before .before .before .args .work .now) = search needs in
-      omega (arith, c .before .before .before .before .before .before .before .before .before .before .before .before .before .pre .0, same, few)
+      let same : length left ≡ length (start .args .work .now) = search needs in
+      omega (arith, start .pre .0, same, few)
 
   words-long : length (take (ground .live .full) left) ≡ ground .live .full
   words-long = length-take-le (ground .live .full) left within
 
-ground-theory-requires : tie.Need-ground-theory-requires
-ground-theory-requires c κs =
-    let pre = c .before .before .before .before .before .before .before .before .pre in
-    (c .layout .ensures _ (pre .0), pre .1, pre .2, pre .3)
-
 returns : tie.Need-returns
 returns c =
-    let found = c .before .before .before .before .before .ground-theory in
-    let a = c .before .before .before .before .before .before .before .before .before .before .before .before .before .before .args in
+    let failed = c .before in let grounded = failed .before .before .before .before in
+    let found = grounded .ground-theory in
+    let a = begun (grounded .before) .args in
     judged-refused (a .compare) (a .problem .now) (a .theory .now) (a .derivation .now) (a .claim .now) (a .output .now) _ (found .result) (c .refused .result) (found .ensures) (c .before .if1 .taken) (c .refused .ensures)
-
-slice-reshare-prefix-concluded : tie.Need-slice-reshare-prefix-concluded
-slice-reshare-prefix-concluded c = within (c .before .before)
-
-slice-aggregate-concluded : tie.Need-slice-aggregate-concluded
-slice-aggregate-concluded c = sym (words-long (c .before .before .before))
-
-cast-concluded : tie.Need-cast-concluded
-cast-concluded c =
-    let before = c .before .before .before .before in
-    omega (arith, few (before))
 
 concluded-requires : tie.Need-concluded-requires
 concluded-requires c κs =
-    let before = c .before .before .before .before .before in
-    omega (arith, few (before), words-long (before))
+    let live = c .before .before .before in let accepted = live .before .before in
+    omega (arith, few accepted, words-long accepted)
 
 returns-2 : tie.Need-returns-2
 returns-2 c =
-    let found = c .before .before .before .before .before .before .before .before .before .before .before .before .ground-theory in
-    let concluded = c .before .before .concluded in
-    let a = c .before .before .before .before .before .before .before .before .before .before .before .before .before .before .before .before .before .before .before .before .before .args in
-    judged-concluded (a .compare) (a .problem .now) (a .theory .now) (a .derivation .now) (a .claim .now) (a .output .now) _ (found .result) (concluded .result) (found .ensures) _ (c .before .before .before .before .before .before .before .before .if1 .left) (concluded .ensures)
+    let concluding = c .before .before in let live = concluding .before .before .before .before in
+    let accepted = live .before .before in
+    let grounded = accepted .before .before .before .before in
+    let found = grounded .ground-theory in
+    let concluded = concluding .concluded in
+    let a = start accepted .args in
+    judged-concluded (a .compare) (a .problem .now) (a .theory .now) (a .derivation .now) (a .claim .now) (a .output .now) _ (found .result) (concluded .result) (found .ensures) _ (accepted .if1 .left) (concluded .ensures)
 
 pub judged-spec : {M : Type 1} → statement M
 judged-spec =
     tie.close
     (tie.spec
     (λ c κs. search needs)
-    ground-theory-requires
+    (λ c κs. let pre = begun c .pre in (c .layout .ensures _ (pre .0), pre .1, pre .2, pre .3))
     (λ c κs. search needs)
     (λ c. search needs)
     returns
-    slice-reshare-prefix-concluded
-    slice-aggregate-concluded
-    cast-concluded
+    (λ c. within (c .before .before))
+    (λ c. sym (words-long (c .before .before .before)))
+    (λ c. let before = c .before .before .before .before in omega (arith, few before))
     concluded-requires
     (λ c. search needs)
     (λ c. search needs)
