@@ -5,7 +5,7 @@ use native.Mathlib.Numerals.{add-one, sub-one}
 use native.Mathlib.Omega.{arith}
 use mathlib.Core.Path.{_≡_, refl, sym, ap, ap₂, _∙_}
 use mathlib.Core.List.{List, [], _++_}
-use mathlib.Core.Bool.{true, false, _&&_}
+use mathlib.Core.Bool.{Bool, true, false, _&&_}
 use lib.Dec.{eqb}
 use Rattle.grammar.specs.Bytes.{Bytes, same}
 use Rattle.grammar.specs.Problem.{Name, Predicate, Problem, inputPredicates, predicates, named, declared, isInput}
@@ -56,31 +56,31 @@ module _ (f : ℕ → Predicate) (i : ℕ) (p : Name) where
   unfolding indexed
   named-none n e = rw e
 
-  pub named-here : (n : ℕ) → 0 < n → same p (f i .name) ≡ true → named (indexed f i n) p ≡ true
+  pub named-here : (n : ℕ) → 0 < n → (b : Bool) → b ≡ same p (f i .name) → b ≡ true → named (indexed f i n) p ≡ true
   unfolding indexed
-  named-here zero h e = absurd (omega arith)
-  named-here (suc n) h e = rw e
+  named-here zero h b told e = absurd (omega arith)
+  named-here (suc n) h b told e = rw (sym told ∙ e)
 
-  pub named-next : (n : ℕ) → 0 < n → same p (f i .name) ≡ false → named (indexed f i n) p ≡ named (indexed f (i + 1) (n - 1)) p
+  pub named-next : (n : ℕ) → 0 < n → (b : Bool) → b ≡ same p (f i .name) → b ≡ false → named (indexed f i n) p ≡ named (indexed f (i + 1) (n - 1)) p
   unfolding indexed
-  named-next zero h e = absurd (omega arith)
-  named-next (suc n) h e = rw (e, add-one i, sub-one (suc n))
+  named-next zero h b told e = absurd (omega arith)
+  named-next (suc n) h b told e = rw (sym told ∙ e, add-one i, sub-one (suc n))
 
   module _ (arity : ℕ) where
     pub declared-none : (n : ℕ) → n ≡ 0 → declared (indexed f i n) p arity ≡ false
     unfolding indexed
     declared-none n e = rw e
 
-    pub declared-here : (n : ℕ) → 0 < n → (same p (f i .name) && eqb (f i .arity) arity) ≡ true → declared (indexed f i n) p arity ≡ true
+    pub declared-here : (n : ℕ) → 0 < n → (b : Bool) → b ≡ (same p (f i .name) && eqb (f i .arity) arity) → b ≡ true → declared (indexed f i n) p arity ≡ true
     unfolding indexed
-    declared-here zero h e = absurd (omega arith)
-    declared-here (suc n) h e = rw e
+    declared-here zero h b told e = absurd (omega arith)
+    declared-here (suc n) h b told e = rw (sym told ∙ e)
 
-    pub declared-next : (n : ℕ) → 0 < n → (same p (f i .name) && eqb (f i .arity) arity) ≡ false
+    pub declared-next : (n : ℕ) → 0 < n → (b : Bool) → b ≡ (same p (f i .name) && eqb (f i .arity) arity) → b ≡ false
         → declared (indexed f i n) p arity ≡ declared (indexed f (i + 1) (n - 1)) p arity
     unfolding indexed
-    declared-next zero h e = absurd (omega arith)
-    declared-next (suc n) h e = rw (e, add-one i, sub-one (suc n))
+    declared-next zero h b told e = absurd (omega arith)
+    declared-next (suc n) h b told e = rw (sym told ∙ e, add-one i, sub-one (suc n))
 
 -- Reading asks for no rows: 7 and 8 are the same in every problem of the table.
 

@@ -338,11 +338,14 @@ module _ (text : Bytes) (n : ℕ) (bound : Name → Bool) (most at : ℕ) (old :
 
 module _ (text : Bytes) (n : ℕ) (bound : Name → Bool) (reader : Reading (List Term)) (at : ℕ) (old : Memory) (to : ℕ) (new : Memory) (r : TermsRead)
     (t : ToldTerms text n bound reader at old to r new) where
+  pub terms-by : (q : TermsRead) → r ≡ q → ToldTerms text n bound reader at old to q new
+  terms-by q e = subst (λ x. ToldTerms text n bound reader at old to x new) e t
+
   pub terms-done : (after count : ℕ) (named : Bool) → r ≡ all.Done after count named → TermsFound text n bound reader at old to after count named new
-  terms-done after count named e = subst (λ q. ToldTerms text n bound reader at old to q new) e t
+  terms-done after count named e = terms-by _ e
 
   pub terms-malformed : r ≡ all.Malformed → reader (drop at text) ≡ refused 5
-  terms-malformed e = subst (λ q. ToldTerms text n bound reader at old to q new) e t
+  terms-malformed e = terms-by _ e
 
 -- The terms of an atom.
 

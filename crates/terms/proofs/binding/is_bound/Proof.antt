@@ -23,19 +23,17 @@ loop-holds c =
 
 returns : tie.Need-returns Inv-loop μ-loop
 returns c =
-    let loop = c .before .before .before .loop in
-    let part = c .before .before .before .before .part in
-    let a = c .before .before .before .before .before .before .args in
-    let l = loop in
-    rw (← l .inv .0) (sym (l .inv .1 ∙ below-here (part .result .now) (scopeName (a .text .now) (a .scope)) (l .i) (omega arith) (sym (c .before .is-bound-at .ensures) ∙ c .if1 .taken)))
+    let turn = c .before .before .before in let parted = turn .before in
+    let a = parted .before .before .args in
+    let l = turn .loop in
+    rw (← l .inv .0) (sym (l .inv .1 ∙ below-here (parted .part .result .now) (scopeName (a .text .now) (a .scope)) (l .i) (omega arith) (sym (c .before .is-bound-at .ensures) ∙ c .if1 .taken)))
 
 loop-again : tie.Need-loop-again Inv-loop μ-loop
 loop-again c =
-    let loop = c .before .before .before .loop in
-    let part = c .before .before .before .before .part in
-    let a = c .before .before .before .before .before .before .args in
-    let l = loop in
-    (l .inv .0, l .inv .1 ∙ below-next (part .result .now) (scopeName (a .text .now) (a .scope)) (l .i) (omega arith) (sym (c .before .is-bound-at .ensures) ∙ c .if1 .left))
+    let turn = c .before .before .before in let parted = turn .before in
+    let a = parted .before .before .args in
+    let l = turn .loop in
+    (l .inv .0, l .inv .1 ∙ below-next (parted .part .result .now) (scopeName (a .text .now) (a .scope)) (l .i) (omega arith) (sym (c .before .is-bound-at .ensures) ∙ c .if1 .left))
 
 returns-2 : tie.Need-returns-2 Inv-loop μ-loop
 returns-2 c =

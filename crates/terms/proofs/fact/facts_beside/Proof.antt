@@ -6,11 +6,9 @@ use Rattle.terms.proofs.fact.facts_beside.Tie as tie
 
 returns : tie.Need-returns
 returns c =
-    let both4 = c .before .before .before .both4 in
-    let both3 = c .before .before .before .before .both3 in
-    let both2 = c .before .before .before .before .before .both2 in
-    let both = c .before .before .before .before .before .before .both in
-    rw (both .ensures, both2 .ensures, both3 .ensures, both4 .ensures, c .before .before .both5 .ensures, c .before .larger .ensures, c .larger2 .ensures)
+    let fifth = c .before .before in let fourth = fifth .before in
+    let third = fourth .before in
+    rw (third .before .before .both .ensures, third .before .both2 .ensures, third .both3 .ensures, fourth .both4 .ensures, fifth .both5 .ensures, c .before .larger .ensures, c .larger2 .ensures)
 
 pub facts-beside-spec : {M : Type 1} → statement M
 facts-beside-spec =

@@ -5,7 +5,9 @@ use native.Mathlib.Omega.{arith}
 use native.Mathlib.Nat.{add-zero}
 use Prim.Native.Nat.{_+_, _-_, _≤_}
 use mathlib.Core.Path.{_≡_, sym, _∙_}
+use mathlib.Core.Bool.{Bool, true, false}
 use lib.ListN.{take, drop}
+use Rattle.grammar.specs.Bytes.{same}
 use Rattle.table.specs.memory.Table.{position, indexed}
 use Rattle.table.proofs.Tables.{position-none, position-here, position-next}
 use Rattle.terms.specs.memory.NameTable.{nameIn, namesIn}
@@ -20,6 +22,20 @@ Inv-loop text names at size name count i₀ i =
 abbrev μ-loop : tie.MeasureT-loop
 μ-loop text names at size name count i₀ i = count - i
 
+-- whether the name is the one of this turn
+module _ (tested : tie.After-is-name Inv-loop μ-loop) where
+  abbrev turn : tie.At-loop Inv-loop μ-loop
+  turn = tested .before .before
+
+  abbrev parted : tie.After-part Inv-loop μ-loop
+  parted = turn .before .before
+
+  abbrev begun : tie.Start Inv-loop μ-loop
+  begun = parted .before .before
+
+  seen : (b : Bool) → tested .is-name .result ≡ b → same (parted .part .result .now) (nameIn (begun .args .text .now) (begun .args .names .now) (turn .loop .i)) ≡ b
+  seen b e = sym (tested .is-name .ensures) ∙ e
+
 loop-holds : tie.Need-loop-holds Inv-loop μ-loop
 loop-holds c =
     let a = c .before .before .before .args in
@@ -27,31 +43,26 @@ loop-holds c =
 
 returns : tie.Need-returns Inv-loop μ-loop
 returns c =
-    let loop = c .before .before .before .loop in
-    let name-count = c .before .before .before .before .name-count in
-    let part = c .before .before .before .before .before .part in
-    let a = c .before .before .before .before .before .before .before .args in
-    let l = loop in
-    let z = position-here (part .result .now) (nameIn (a .text .now) (a .names .now)) (l .i) (name-count .result - l .i) (omega arith) (sym (c .before .is-name .ensures) ∙ c .if1 .taken) in
+    let tested = c .before in let a = begun tested .args in
+    let l = turn tested .loop in
+    let z = position-here (parted tested .part .result .now) (nameIn (a .text .now) (a .names .now)) (l .i) (turn tested .before .name-count .result - l .i) (omega arith) (seen tested true (c .if1 .taken)) in
     rw (← l .inv .0, l .inv .3, z) (sym (add-zero (l .i)))
 
 loop-again : tie.Need-loop-again Inv-loop μ-loop
 loop-again c =
-    let loop = c .before .before .before .loop in
-    let name-count = c .before .before .before .before .name-count in
-    let part = c .before .before .before .before .before .part in
-    let a = c .before .before .before .before .before .before .before .args in
-    let l = loop in
+    let tested = c .before in let a = begun tested .args in
+    let l = turn tested .loop in
+    let name-count = turn tested .before .name-count in
     let e : name-count .result - l .i - 1 ≡ name-count .result - (l .i + 1) = omega arith in
-    let z = position-next (part .result .now) (nameIn (a .text .now) (a .names .now)) (l .i) (name-count .result - l .i) (omega arith) (sym (c .before .is-name .ensures) ∙ c .if1 .left) in
+    let z = position-next (parted tested .part .result .now) (nameIn (a .text .now) (a .names .now)) (l .i) (name-count .result - l .i) (omega arith) (seen tested false (c .if1 .left)) in
     (l .inv .0, l .inv .1, omega arith, l .inv .3 ∙ rw z (rw e (omega arith)))
 
 returns-2 : tie.Need-returns-2 Inv-loop μ-loop
 returns-2 c =
-    let part = c .before .before .before .part in
-    let a = c .before .before .before .before .before .args in
+    let counted = c .before .before in let parted = counted .before in
+    let a = parted .before .before .args in
     let l = c .before .loop in
-    let z = position-none (part .result .now) (nameIn (a .text .now) (a .names .now)) (l .i) (c .before .before .name-count .result - l .i) (omega arith) in
+    let z = position-none (parted .part .result .now) (nameIn (a .text .now) (a .names .now)) (l .i) (counted .name-count .result - l .i) (omega arith) in
     rw (← l .inv .0, l .inv .3, z) (sym (add-zero (l .i)))
 
 pub find-name-spec : {M : Type 1} → statement M

@@ -8,22 +8,22 @@ use Rattle.terms.proofs.name_table.list_name.Tie as tie
 
 returns : tie.Need-returns
 returns c =
-    let find-name = c .before .before .before .find-name in
-    let a = c .before .before .before .before .before .before .args in
+    let sought = c .before .before .before in let find-name = sought .find-name in
+    let a = sought .before .before .before .args in
     listed-there (a .text .now) (a .at) (a .size) (a .names .now) (find-name .result) (find-name .ensures) (omega (arith, c .before .name-count .ensures))
 
 returns-2 : tie.Need-returns-2
 returns-2 c =
-    let name-count = c .before .before .before .before .name-count in
-    let find-name = c .before .before .before .before .before .before .find-name in
-    let a = c .before .before .before .before .before .before .before .before .before .args in
+    let second-holds = c .before .before in let counted = second-holds .before .before in
+    let sought = counted .before .before in let find-name = sought .find-name in
+    let a = sought .before .before .before .args in
     rw (c .with-name .ensures .0)
-    (listed-new (a .text .now) (a .at) (a .size) (a .names .now) (find-name .result) (find-name .ensures) (c .with-name .ensures .1) (omega (arith, name-count .ensures)) (c .before .before .if2 .taken))
+    (listed-new (a .text .now) (a .at) (a .size) (a .names .now) (find-name .result) (find-name .ensures) (c .with-name .ensures .1) (omega (arith, counted .name-count .ensures)) (second-holds .if2 .taken))
 
 returns-3 : tie.Need-returns-3
 returns-3 c =
-    let find-name = c .before .before .before .before .find-name in
-    let a = c .before .before .before .before .before .before .before .args in
+    let sought = c .before .before .before .before in let find-name = sought .find-name in
+    let a = sought .before .before .before .args in
     listed-full (a .text .now) (a .at) (a .size) (a .names .now) (find-name .result) (find-name .ensures) (c .if2 .left)
 
 pub list-name-spec : {M : Type 1} → statement M

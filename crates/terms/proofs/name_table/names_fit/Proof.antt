@@ -31,27 +31,25 @@ loop-holds c =
 
 returns-2 : tie.Need-returns-2 Inv-loop μ-loop
 returns-2 c =
-    let loop = c .before .before .before .loop in
-    let name-count = c .before .before .before .before .before .name-count in
-    let a = c .before .before .before .before .before .before .before .args in
-    let l = loop in
-    sym (l .inv .2 ∙ short-stop (nameIn (a .text .now) (a .names .now)) (l .i) (name-count .result - l .i) (omega arith) (sym (c .before .is-short .ensures) ∙ not-true _ (c .if2 .taken)))
+    let turn = c .before .before .before in let counted = turn .before .before in
+    let a = counted .before .before .args in
+    let l = turn .loop in
+    sym (l .inv .2 ∙ short-stop (nameIn (a .text .now) (a .names .now)) (l .i) (counted .name-count .result - l .i) (omega arith) (sym (c .before .is-short .ensures) ∙ not-true _ (c .if2 .taken)))
 
 loop-again : tie.Need-loop-again Inv-loop μ-loop
 loop-again c =
-    let loop = c .before .before .before .loop in
-    let name-count = c .before .before .before .before .before .name-count in
-    let a = c .before .before .before .before .before .before .before .args in
-    let l = loop in
+    let turn = c .before .before .before in let counted = turn .before .before in
+    let name-count = counted .name-count in
+    let a = counted .before .before .args in
+    let l = turn .loop in
     let e : name-count .result - l .i - 1 ≡ name-count .result - (l .i + 1) = omega arith in
     (omega arith, omega arith, l .inv .2 ∙ short-next (nameIn (a .text .now) (a .names .now)) (l .i) (name-count .result - l .i) (omega arith) (sym (c .before .is-short .ensures) ∙ not-false _ (c .if2 .left)) ∙ rw e)
 
 returns-3 : tie.Need-returns-3 Inv-loop μ-loop
 returns-3 c =
-    let name-count = c .before .before .before .name-count in
-    let a = c .before .before .before .before .before .args in
+    let counted = c .before .before .before in let a = counted .before .before .args in
     let l = c .before .loop in
-    sym (l .inv .2 ∙ short-none (nameIn (a .text .now) (a .names .now)) (l .i) (name-count .result - l .i) (omega arith))
+    sym (l .inv .2 ∙ short-none (nameIn (a .text .now) (a .names .now)) (l .i) (counted .name-count .result - l .i) (omega arith))
 
 pub names-fit-spec : {M : Type 1} → statement M
 names-fit-spec =

@@ -25,26 +25,25 @@ loop-holds c =
 
 returns : tie.Need-returns Inv-loop μ-loop
 returns c =
-    let loop = c .before .before .before .loop in
-    let larger = c .before .before .before .before .larger in
-    let a = c .before .before .before .before .before .before .before .args in
-    let l = loop in
-    sym (l .inv .1 ∙ declared-here (tablePredicate (a .problem .now) (a .table)) (l .i) (a .name .now) (a .arity) (larger .result - l .i) (omega arith) (sym (c .before .is-predicate .ensures) ∙ c .if1 .taken))
+    let turn = c .before .before .before in let enlarged = turn .before in
+    let a = enlarged .before .before .before .args in
+    let l = turn .loop in
+    sym (l .inv .1 ∙ declared-here (tablePredicate (a .problem .now) (a .table)) (l .i) (a .name .now) (a .arity) (enlarged .larger .result - l .i) (omega arith) _ (c .before .is-predicate .ensures) (c .if1 .taken))
 
 loop-again : tie.Need-loop-again Inv-loop μ-loop
 loop-again c =
-    let loop = c .before .before .before .loop in
-    let larger = c .before .before .before .before .larger in
-    let a = c .before .before .before .before .before .before .before .args in
-    let l = loop in
+    let turn = c .before .before .before in let enlarged = turn .before in
+    let larger = enlarged .larger in
+    let a = enlarged .before .before .before .args in
+    let l = turn .loop in
     let e : larger .result - l .i - 1 ≡ larger .result - (l .i + 1) = omega arith in
-    (omega arith, l .inv .1 ∙ declared-next (tablePredicate (a .problem .now) (a .table)) (l .i) (a .name .now) (a .arity) (larger .result - l .i) (omega arith) (sym (c .before .is-predicate .ensures) ∙ c .if1 .left) ∙ rw e)
+    (omega arith, l .inv .1 ∙ declared-next (tablePredicate (a .problem .now) (a .table)) (l .i) (a .name .now) (a .arity) (larger .result - l .i) (omega arith) _ (c .before .is-predicate .ensures) (c .if1 .left) ∙ rw e)
 
 returns-2 : tie.Need-returns-2 Inv-loop μ-loop
 returns-2 c =
-    let a = c .before .before .before .before .before .args in
+    let enlarged = c .before .before in let a = enlarged .before .before .before .args in
     let l = c .before .loop in
-    sym (l .inv .1 ∙ declared-none (tablePredicate (a .problem .now) (a .table)) (l .i) (a .name .now) (a .arity) (c .before .before .larger .result - l .i) (omega arith))
+    sym (l .inv .1 ∙ declared-none (tablePredicate (a .problem .now) (a .table)) (l .i) (a .name .now) (a .arity) (enlarged .larger .result - l .i) (omega arith))
 
 pub is-declared-spec : {M : Type 1} → statement M
 is-declared-spec =

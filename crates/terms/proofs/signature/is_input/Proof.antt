@@ -18,30 +18,23 @@ Inv-loop problem table name i₀ i =
 abbrev μ-loop : tie.MeasureT-loop
 μ-loop problem table name i₀ i = table .inputs - i
 
-loop-holds : tie.Need-loop-holds Inv-loop μ-loop
-loop-holds c =
-    let a = c .before .before .args in
-    (omega arith, input-first (a .problem .now) (a .table) (a .name .now))
-
 returns : tie.Need-returns Inv-loop μ-loop
 returns c =
-    let loop = c .before .before .before .before .loop in
-    let a = c .before .before .before .before .before .before .before .args in
-    let l = loop in
-    sym (l .inv .1 ∙ named-here (tablePredicate (a .problem .now) (a .table)) (l .i) (a .name .now) (a .table .inputs - l .i) (omega arith) (sym (c .before .is-named .ensures) ∙ c .if2 .taken))
+    let turn = c .before .before .before .before in let a = turn .before .before .before .args in
+    let l = turn .loop in
+    sym (l .inv .1 ∙ named-here (tablePredicate (a .problem .now) (a .table)) (l .i) (a .name .now) (a .table .inputs - l .i) (omega arith) _ (c .before .is-named .ensures) (c .if2 .taken))
 
 loop-again : tie.Need-loop-again Inv-loop μ-loop
 loop-again c =
-    let loop = c .before .before .before .before .loop in
-    let a = c .before .before .before .before .before .before .before .args in
-    let l = loop in
+    let turn = c .before .before .before .before in let a = turn .before .before .before .args in
+    let l = turn .loop in
     let e : a .table .inputs - l .i - 1 ≡ a .table .inputs - (l .i + 1) = omega arith in
-    (omega arith, l .inv .1 ∙ named-next (tablePredicate (a .problem .now) (a .table)) (l .i) (a .name .now) (a .table .inputs - l .i) (omega arith) (sym (c .before .is-named .ensures) ∙ c .if2 .left) ∙ rw e)
+    (omega arith, l .inv .1 ∙ named-next (tablePredicate (a .problem .now) (a .table)) (l .i) (a .name .now) (a .table .inputs - l .i) (omega arith) _ (c .before .is-named .ensures) (c .if2 .left) ∙ rw e)
 
 returns-2 : tie.Need-returns-2 Inv-loop μ-loop
 returns-2 c =
-    let a = c .before .before .before .before .before .args in
-    let l = c .before .before .loop in
+    let turn = c .before .before in let a = turn .before .before .before .args in
+    let l = turn .loop in
     sym (l .inv .1 ∙ named-none (tablePredicate (a .problem .now) (a .table)) (l .i) (a .name .now) (a .table .inputs - l .i) (omega arith))
 
 pub is-input-spec : {M : Type 1} → statement M
@@ -50,7 +43,7 @@ is-input-spec =
     (tie.spec
     Inv-loop
     μ-loop
-    loop-holds
+    (λ c. let a = c .before .before .args in (omega arith, input-first (a .problem .now) (a .table) (a .name .now)))
     (λ c κs. search needs)
     returns
     (λ c. search needs)

@@ -11,8 +11,8 @@ returns c = rw (sym (c .before .is-named .ensures) ∙ not-true _ (c .if1 .taken
 
 returns-2 : tie.Need-returns-2
 returns-2 c =
-    let is-named = c .before .before .before .is-named in
-    rw (sym (is-named .ensures) ∙ not-false _ (c .before .before .if1 .left), c .entry .ensures)
+    let named = c .before .before .before in
+    rw (← named .is-named .ensures, not-false (named .is-named .result) (c .before .before .if1 .left), c .entry .ensures)
 
 pub is-predicate-spec : {M : Type 1} → statement M
 is-predicate-spec = tie.close (tie.spec (λ c κs. search needs) returns (λ c κs. search needs) returns-2)

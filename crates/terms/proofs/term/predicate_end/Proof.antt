@@ -15,9 +15,9 @@ returns c =
 
 returns-2 : tie.Need-returns-2
 returns-2 c =
-    let peek = c .before .before .before .peek in
-    let a = c .before .before .before .before .before .args in
-    name-found (a .text .now) (a .at) (c .run-end .result) (ap isCapital (sym (peek .ensures)) ∙ sym (c .before .before .is-capital .ensures) ∙ not-false _ (c .before .if1 .left)) (c .run-end .ensures .0) (c .run-end .ensures .1)
+    let capital = c .before .before in let peeked = capital .before in
+    let a = peeked .before .before .args in
+    name-found (a .text .now) (a .at) (c .run-end .result) (ap isCapital (sym (peeked .peek .ensures)) ∙ sym (capital .is-capital .ensures) ∙ not-false _ (c .before .if1 .left)) (c .run-end .ensures .0) (c .run-end .ensures .1)
 
 pub predicate-end-spec : {M : Type 1} → statement M
 predicate-end-spec =

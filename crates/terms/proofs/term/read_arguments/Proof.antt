@@ -18,18 +18,17 @@ returns c =
 
 closed-terms-requires : tie.Need-closed-terms-requires
 closed-terms-requires c κs =
-    let peek = c .before .before .before .peek in
-    let start = c .before .before .before .before .before .before in
-    let h = byte-found (start .args .text .now) (start .args .at) 40 (omega arith) (sym (peek .ensures) ∙ c .before .before .if1 .left) .within in
+    let past-first = c .before .before in let peeked = past-first .before in
+    let begun = peeked .before .before .before in
+    let h = byte-found (begun .args .text .now) (begun .args .at) 40 (omega arith) (sym (peeked .peek .ensures) ∙ past-first .if1 .left) .within in
     search needs
 
 returns-2 : tie.Need-returns-2
 returns-2 c =
-    let closed-terms = c .before .before .closed-terms in
-    let if1 = c .before .before .before .before .before .if1 in
-    let peek = c .before .before .before .before .before .before .peek in
-    let a = c .before .before .before .before .before .before .before .before .before .args in
-    arguments-some (a .text .now) (a .domain) (boundIn (a .text .now) (a .scope)) (a .at) (memory (a .names .now) (a .work .now)) (a .to) (sym (peek .ensures) ∙ if1 .left) (closed-terms .result) _ (closed-terms .ensures)
+    let closed = c .before .before in let past-first = closed .before .before .before in
+    let peeked = past-first .before in let closed-terms = closed .closed-terms in
+    let a = peeked .before .before .before .args in
+    arguments-some (a .text .now) (a .domain) (boundIn (a .text .now) (a .scope)) (a .at) (memory (a .names .now) (a .work .now)) (a .to) (sym (peeked .peek .ensures) ∙ past-first .if1 .left) (closed-terms .result) _ (closed-terms .ensures)
 
 pub read-arguments-spec : {M : Type 1} → statement M
 read-arguments-spec =

@@ -13,26 +13,24 @@ use Rattle.terms.proofs.term.read_term.Tie as tie
 
 returns : tie.Need-returns
 returns c =
-    let read-element = c .before .before .read-element in
-    let if1 = c .before .before .before .before .if1 in
-    let is-digit = c .before .before .before .before .before .is-digit in
-    let peek = c .before .before .before .before .before .before .peek in
-    let a = c .before .before .before .before .before .before .before .before .before .args in
+    let read = c .before .before in let first-holds = read .before .before in
+    let digit = first-holds .before in let peeked = digit .before in
+    let read-element = read .read-element in
+    let a = peeked .before .before .before .args in
     let bound = boundIn (a .text .now) (a .scope) in
     told-term (a .text .now) (a .at) (a .domain) bound readElement readTerm (memory (a .names .now) (a .work .now)) (a .to) (read-element .result) _
-    (term-digit (a .text .now) (a .at) (ap isDigit (sym (peek .ensures)) ∙ sym (is-digit .ensures) ∙ if1 .taken))
+    (term-digit (a .text .now) (a .at) (ap isDigit (sym (peeked .peek .ensures)) ∙ sym (digit .is-digit .ensures) ∙ first-holds .if1 .taken))
     (read-element .ensures bound (a .names .now))
 
 returns-2 : tie.Need-returns-2
 returns-2 c =
-    let read-variable = c .before .before .read-variable in
-    let if1 = c .before .before .before .before .before .if1 in
-    let is-digit = c .before .before .before .before .before .before .is-digit in
-    let peek = c .before .before .before .before .before .before .before .peek in
-    let a = c .before .before .before .before .before .before .before .before .before .before .args in
+    let read = c .before .before in let past-first = read .before .before .before in
+    let digit = past-first .before in let peeked = digit .before in
+    let read-variable = read .read-variable in
+    let a = peeked .before .before .before .args in
     let bound = boundIn (a .text .now) (a .scope) in
     told-term (a .text .now) (a .at) (a .domain) bound readVariableTerm readTerm (memory (a .names .now) (a .work .now)) (a .to) (read-variable .result) _
-    (term-other (a .text .now) (a .at) (ap isDigit (sym (peek .ensures)) ∙ sym (is-digit .ensures) ∙ if1 .left))
+    (term-other (a .text .now) (a .at) (ap isDigit (sym (peeked .peek .ensures)) ∙ sym (digit .is-digit .ensures) ∙ past-first .if1 .left))
     (read-variable .ensures (a .domain))
 
 pub read-term-spec : {M : Type 1} → statement M

@@ -20,6 +20,9 @@ Inv-loop text at most scope domain names₀ work₀ to i₀ more₀ count₀ all
 abbrev μ-loop : tie.MeasureT-loop
 μ-loop text at most scope domain names₀ work₀ to i₀ more₀ count₀ all₀ names work i more count all = more
 
+abbrev passed : tie.After-next Inv-loop μ-loop → tie.At-loop Inv-loop μ-loop
+passed read = read .before .before .before .before .before .before .before
+
 -- the term that was read
 term-found : (c : tie.After-next Inv-loop μ-loop)
     → let read = c .before .before .before .before in
@@ -40,23 +43,19 @@ loop-holds c =
 returns : tie.Need-returns Inv-loop μ-loop
 returns c =
     let read = c .before .before .before in
-    rw (c .before .both .ensures) (terms-full _ _ _ _ _ _ _ _ _ _ _ _ (read .before .before .before .before .before .before .before .loop .inv .0) _ _ _ (term-found read) (c .if1 .taken))
+    rw (c .before .both .ensures) (terms-full _ _ _ _ _ _ _ _ _ _ _ _ (passed read .loop .inv .0) _ _ _ (term-found read) (c .if1 .taken))
 
 returns-2 : tie.Need-returns-2 Inv-loop μ-loop
 returns-2 c =
-    let judged = c .before .before .before in
-    let read = judged .before .before in
-    rw (judged .both .ensures) (terms-last _ _ _ _ _ _ _ _ _ _ _ _ (read .before .before .before .before .before .before .before .loop .inv .0) _ _ _ (term-found read) (λ e. c .if2 .taken (c .before .peek .ensures ∙ e)))
-
-add-i : tie.Need-add-i Inv-loop μ-loop
-add-i c = omega (arith, term-found (c .before .before .before .before .before))
+    let judged = c .before .before .before in let read = judged .before .before in
+    rw (judged .both .ensures) (terms-last _ _ _ _ _ _ _ _ _ _ _ _ (passed read .loop .inv .0) _ _ _ (term-found read) (λ e. c .if2 .taken (c .before .peek .ensures ∙ e)))
 
 loop-again : tie.Need-loop-again Inv-loop μ-loop
 loop-again c =
-    let judged = c .before .before .before in
+    let past-first = c .before .before in let judged = past-first .before in
     let read = judged .before .before in (
       rw (judged .both .ensures)
-          (terms-on _ _ _ _ _ _ _ _ _ _ _ _ (read .before .before .before .before .before .before .before .loop .inv .0) _ _ _ (term-found read) (c .before .before .if1 .left) (sym (c .before .peek .ensures) ∙ c .if2 .left)),
+          (terms-on _ _ _ _ _ _ _ _ _ _ _ _ (passed read .loop .inv .0) _ _ _ (term-found read) (past-first .if1 .left) (sym (c .before .peek .ensures) ∙ c .if2 .left)),
       search needs,
     )
 
@@ -83,7 +82,7 @@ read-terms-spec =
     (λ c. search needs)
     returns-2
     (λ c. search needs)
-    add-i
+    (λ c. let peeked = c .before in omega (arith, term-found (peeked .before .before .before .before)))
     (λ c. search needs)
     loop-again
     (λ c. search needs)

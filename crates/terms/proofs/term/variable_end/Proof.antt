@@ -15,23 +15,21 @@ returns c =
 
 returns-2 : tie.Need-returns-2
 returns-2 c =
-    let run-end = c .before .before .before .run-end in
-    let if1 = c .before .before .before .before .if1 in
-    let is-small = c .before .before .before .before .before .is-small in
-    let peek = c .before .before .before .before .before .before .peek in
-    let a = c .before .before .before .before .before .before .before .before .args in
-    variable-truth (a .text .now) (a .at) (run-end .result) (ap isSmall (sym (peek .ensures)) ∙ sym (is-small .ensures) ∙ not-false _ (if1 .left)) (run-end .ensures .0)
-    (rw (← c .before .before .part .ensures) (sym (c .before .is-truth .ensures) ∙ c .if2 .taken))
+    let parted = c .before .before in let run = parted .before in
+    let past-first = run .before in let small = past-first .before in
+    let peeked = small .before in let run-end = run .run-end in
+    let a = peeked .before .before .args in
+    variable-truth (a .text .now) (a .at) (run-end .result) (ap isSmall (sym (peeked .peek .ensures)) ∙ sym (small .is-small .ensures) ∙ not-false _ (past-first .if1 .left)) (run-end .ensures .0)
+    (rw (← parted .part .ensures) (sym (c .before .is-truth .ensures) ∙ c .if2 .taken))
 
 returns-3 : tie.Need-returns-3
 returns-3 c =
-    let run-end = c .before .before .before .run-end in
-    let if1 = c .before .before .before .before .if1 in
-    let is-small = c .before .before .before .before .before .is-small in
-    let peek = c .before .before .before .before .before .before .peek in
-    let a = c .before .before .before .before .before .before .before .before .args in
-    variable-found (a .text .now) (a .at) (run-end .result) (ap isSmall (sym (peek .ensures)) ∙ sym (is-small .ensures) ∙ not-false _ (if1 .left)) (run-end .ensures .0)
-    (rw (← c .before .before .part .ensures) (sym (c .before .is-truth .ensures) ∙ c .if2 .left)) (run-end .ensures .1)
+    let parted = c .before .before in let run = parted .before in
+    let past-first = run .before in let small = past-first .before in
+    let peeked = small .before in let run-end = run .run-end in
+    let a = peeked .before .before .args in
+    variable-found (a .text .now) (a .at) (run-end .result) (ap isSmall (sym (peeked .peek .ensures)) ∙ sym (small .is-small .ensures) ∙ not-false _ (past-first .if1 .left)) (run-end .ensures .0)
+    (rw (← parted .part .ensures) (sym (c .before .is-truth .ensures) ∙ c .if2 .left)) (run-end .ensures .1)
 
 pub variable-end-spec : {M : Type 1} → statement M
 variable-end-spec =
