@@ -57,12 +57,17 @@ module _ (test : List ℕ → Bool) (work : List ℕ) (i n : ℕ) (more : 0 < n)
   all-stop e = rw (all-first, e)
 
 -- An atom at a place, which may lie past the end.
-pub ground-kind : (table : Table) (work : List ℕ) (at word : ℕ) (k j : Kind) → word ≡ getD work at 0 → j ≡ kindOf word → j ≡ k
+ground-kind : (table : Table) (work : List ℕ) (at word : ℕ) (k j : Kind) → word ≡ getD work at 0 → j ≡ kindOf word → j ≡ k
     → groundAtomAt table (drop at work) ≡ groundAtomBy table k (drop (at + 1) work)
 unfolding groundAtomAt
 ground-kind table work at word k j e h is =
     let told : kindOf (getD work at 0) ≡ k = rw e at (sym h) ∙ is in
     rw (← next-within work at, told, drop-drop 1 at work)
+
+-- what was told of what stands behind is told of the whole
+pub ground-told : (table : Table) (work : List ℕ) (at word : ℕ) (j : Kind) → word ≡ getD work at 0 → j ≡ kindOf word → (k : Kind) → j ≡ k
+    → (b : Bool) → b ≡ groundAtomBy table k (drop (at + 1) work) → b ≡ groundAtomAt table (drop at work)
+ground-told table work at word j e h k is b so = so ∙ sym (ground-kind table work at word k j e h is)
 
 -- A connective.
 module _ (table : Table) (test : List ℕ → Bool) (sign : Sign) (n : ℕ) (s : List ℕ) where
@@ -79,8 +84,8 @@ module _ (table : Table) (test : List ℕ → Bool) (sign : Sign) (n : ℕ) (s :
     pub junction-none : every ≡ false → n ≡ 0 → false ≡ connectiveClauseAt table test sign n s
     junction-none e h = rw (is, e, h)
 
-    pub junction-some : every ≡ false → (n ≡ 0 → ⊥) → allAt test n s ≡ connectiveClauseAt table test sign n s
-    junction-some e h = rw (is, e, ne-eqb n 0 h)
+    pub junction-some : every ≡ false → (n ≡ 0 → ⊥) → (b : Bool) → b ≡ allAt test n s → b ≡ connectiveClauseAt table test sign n s
+    junction-some e h b so = rw (is, e, ne-eqb n 0 h) so
 
 pub connective-never : (table : Table) (test : List ℕ → Bool) (n : ℕ) (s : List ℕ) (sign other : Sign) → sign ≡ other
     → connectiveClauseAt table test other n s ≡ false → false ≡ connectiveClauseAt table test sign n s
@@ -100,7 +105,7 @@ module _ (table : Table) (work : List ℕ) (at levels : ℕ) where
       pick zero = refl
       pick (suc l) = refl
 
-  pub clause-kind : (k : Kind) → (levels ≡ 0 → ⊥) → at < length work → kindOf (getD work at 0) ≡ k
+  clause-kind : (k : Kind) → (levels ≡ 0 → ⊥) → at < length work → kindOf (getD work at 0) ≡ k
       → clauseAt table levels (drop at work) ≡ clauseBy table (clauseAt table (levels - 1)) k (drop (at + 1) work)
   unfolding clauseAt
   clause-kind k some within e = rw (drop-cons work at 0 within, add-one at) (pick levels some)
@@ -108,6 +113,11 @@ module _ (table : Table) (work : List ℕ) (at levels : ℕ) where
       pick : (l : ℕ) → (l ≡ 0 → ⊥) → clauseAt table l (getD work at 0 ∷ drop (suc at) work) ≡ clauseBy table (clauseAt table (l - 1)) k (drop (suc at) work)
       pick zero h = absurd (h refl)
       pick (suc l) h = rw (e, sub-one (suc l))
+
+  -- what was told of what stands behind is told of the whole
+  pub clause-told : (levels ≡ 0 → ⊥) → at < length work → (j : Kind) → j ≡ kindOf (getD work at 0) → (k : Kind) → j ≡ k
+      → (b : Bool) → b ≡ clauseBy table (clauseAt table (levels - 1)) k (drop (at + 1) work) → b ≡ clauseAt table levels (drop at work)
+  clause-told some within j seen k e b so = so ∙ sym (clause-kind k some within (sym seen ∙ e))
 
 -- Where the words of a formula stand.
 

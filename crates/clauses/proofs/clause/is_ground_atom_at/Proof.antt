@@ -1,47 +1,25 @@
 -- `clause::is_ground_atom_at` looks at the word's kind: only an atom can be a ground atom.
 -- Assumes nothing.
 use borrow.Author.Needs.{needs}
-use mathlib.Core.Path.{sym, _∙_}
-use Rattle.clauses.proofs.memory.Clauses.{ground-kind}
+use Prim.Native.Nat.{_+_}
+use mathlib.Core.Path.{_≡_, refl}
+use mathlib.Core.Bool.{Bool}
+use lib.ListN.{drop}
+use Rattle.words.specs.declared.word.Kind.{Kind}
+use Rattle.clauses.specs.memory.Clauses.{groundAtomAt, groundAtomBy}
+use Rattle.clauses.proofs.memory.Clauses.{ground-told}
 use Rattle.clauses.proofs.clause.is_ground_atom_at.Statement.{statement}
 use Rattle.clauses.proofs.clause.is_ground_atom_at.Tie as tie
 
-returns : tie.Need-returns
-returns c =
-    let peek = c .before .before .before .peek in
-    let a = c .before .before .before .before .before .args in
-    sym (ground-kind (a .table) (a .work .now) (a .at) _ _ _ (peek .ensures) (c .before .before .kind-of .ensures) (c .enum-told .given .1))
+-- the kind of the word
+module _ (seen : tie.After-kind-of) where
+  abbrev begun : tie.Start
+  begun = seen .before .before .before
 
-returns-2 : tie.Need-returns-2
-returns-2 c =
-    let kind-of = c .before .before .before .before .kind-of in
-    let peek = c .before .before .before .before .before .peek in
-    let a = c .before .before .before .before .before .before .before .args in
-    c .is-ground .ensures ∙ sym (ground-kind (a .table) (a .work .now) (a .at) _ _ _ (peek .ensures) (kind-of .ensures) (c .before .before .predicate .given .1))
-
-returns-3 : tie.Need-returns-3
-returns-3 c =
-    let peek = c .before .before .before .peek in
-    let a = c .before .before .before .before .before .args in
-    sym (ground-kind (a .table) (a .work .now) (a .at) _ _ _ (peek .ensures) (c .before .before .kind-of .ensures) (c .enum-told2 .given .1))
-
-returns-4 : tie.Need-returns-4
-returns-4 c =
-    let peek = c .before .before .before .peek in
-    let a = c .before .before .before .before .before .args in
-    sym (ground-kind (a .table) (a .work .now) (a .at) _ _ _ (peek .ensures) (c .before .before .kind-of .ensures) (c .enum-told3 .given .1))
-
-returns-5 : tie.Need-returns-5
-returns-5 c =
-    let peek = c .before .before .before .peek in
-    let a = c .before .before .before .before .before .args in
-    sym (ground-kind (a .table) (a .work .now) (a .at) _ _ _ (peek .ensures) (c .before .before .kind-of .ensures) (c .enum-told4 .given .1))
-
-returns-6 : tie.Need-returns-6
-returns-6 c =
-    let peek = c .before .before .before .peek in
-    let a = c .before .before .before .before .before .args in
-    sym (ground-kind (a .table) (a .work .now) (a .at) _ _ _ (peek .ensures) (c .before .before .kind-of .ensures) (c .enum-told5 .given .1))
+  told : (k : Kind) → seen .kind-of .result ≡ k
+      → let a = begun .args in
+      (b : Bool) → b ≡ groundAtomBy (a .table) k (drop (a .at + 1) (a .work .now)) → b ≡ groundAtomAt (a .table) (drop (a .at) (a .work .now))
+  told = let a = begun .args in ground-told (a .table) (a .work .now) (a .at) _ (seen .kind-of .result) (seen .before .peek .ensures) (seen .kind-of .ensures)
 
 pub is-ground-atom-at-spec : {M : Type 1} → statement M
 is-ground-atom-at-spec =
@@ -57,9 +35,9 @@ is-ground-atom-at-spec =
     (λ c. search needs)
     (λ c. search needs)
     (λ c. search needs)
-    returns
-    returns-2
-    returns-3
-    returns-4
-    returns-5
-    returns-6)
+    (λ c. told (c .before .before) _ (c .enum-told .given .1) _ refl)
+    (λ c. let named = c .before .before in told (named .before .before) _ (named .predicate .given .1) _ (c .is-ground .ensures))
+    (λ c. told (c .before .before) _ (c .enum-told2 .given .1) _ refl)
+    (λ c. told (c .before .before) _ (c .enum-told3 .given .1) _ refl)
+    (λ c. told (c .before .before) _ (c .enum-told4 .given .1) _ refl)
+    (λ c. told (c .before .before) _ (c .enum-told5 .given .1) _ refl))
