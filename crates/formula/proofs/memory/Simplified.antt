@@ -100,19 +100,19 @@ module _ (every : Bool) (n : ℕ) (s : List ℕ) where
 -- What is stored.
 
 module _ (every : Bool) (n : ℕ) (old : List ℕ) (at end : ℕ) {to next : ℕ} {first : List ℕ} (apart : end ≤ to) where
-  pub value-stores : (b : Bool) → simplification every n (slice at end old) ≡ Value b → {word : ℕ} → word ≡ truthWord b → Stores old to (word ∷ []) next first
+  pub value-stores : {seen : Simplified} → seen ≡ simplification every n (slice at end old) → (b : Bool) → seen ≡ Value b → {word : ℕ} → word ≡ truthWord b → Stores old to (word ∷ []) next first
       → Stores old to (simplifiedWords every n (slice at end old)) next first
   unfolding simplifiedWords
-  value-stores b e f s = rw (e, ← f) s
+  value-stores so b e f s = rw (sym so ∙ e, ← f) s
 
-  pub parts-stores : (count : ℕ) → simplification every n (slice at end old) ≡ Parts count → {word : ℕ} → word ≡ count * 16 + connectiveTag (junction (sideOf every))
+  pub parts-stores : {seen : Simplified} → seen ≡ simplification every n (slice at end old) → (count : ℕ) → seen ≡ Parts count → {word : ℕ} → word ≡ count * 16 + connectiveTag (junction (sideOf every))
       → Stores old to (word ∷ []) next first
       → {last : ℕ} {work : List ℕ} → Stores first next (wordsWithout every n (slice at end first)) last work
       → Stores old to (simplifiedWords every n (slice at end old)) last work
   unfolding simplifiedWords
-  parts-stores count e f s t =
+  parts-stores so count e f s t =
       let whole = simplifiedWords every n (slice at end old) in
-      let a : Ahead old to whole first next (wordsWithout every n (slice at end old)) = ahead-turn (ahead-start old to whole) (rw (e, f)) s in
+      let a : Ahead old to whole first next (wordsWithout every n (slice at end old)) = ahead-turn (ahead-start old to whole) (rw (sym so ∙ e, f)) s in
       ahead-end (ahead-turn a (rw (ahead-slice a at end apart) (sym (append-nil _))) t) refl
 
 pub simplified-near : (every : Bool) (n : ℕ) (s : List ℕ) → length (simplifiedWords every n s) ≤ 1 + length s

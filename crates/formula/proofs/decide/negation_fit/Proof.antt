@@ -13,9 +13,8 @@ returns c =
 
 returns-2 : tie.Need-returns-2
 returns-2 c =
-    let is-negation = c .before .before .before .is-negation in
-    let kind = c .before .before .before .before .before .kind in
-    rw (kind .given .1) (rw (sym (is-negation .ensures) ∙ not-false _ (c .before .before .if1 .left), eq-eqb _ 1 (c .before .if2 .taken)) (c .negated-fit .ensures))
+    let past-first = c .before .before in let negated = past-first .before in
+    rw (negated .before .before .kind .given .1) (rw (sym (negated .is-negation .ensures) ∙ not-false _ (past-first .if1 .left), eq-eqb _ 1 (c .before .if2 .taken)) (c .negated-fit .ensures))
 
 returns-6 : tie.Need-returns-6
 returns-6 c =

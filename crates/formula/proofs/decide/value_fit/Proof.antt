@@ -14,8 +14,8 @@ returns c =
 
 returns-2 : tie.Need-returns-2
 returns-2 c =
-    let a = c .before .before .before .before .before .args in
-    value-fits (a .table) (a .rows .now) (a .work .now) (a .at) (a .terms) _ (sym (c .before .before .are-elements .ensures) ∙ not-false _ (c .before .if1 .left)) (c .evaluate .ensures)
+    let judged = c .before .before in let a = judged .before .before .before .args in
+    value-fits (a .table) (a .rows .now) (a .work .now) (a .at) (a .terms) _ (sym (judged .are-elements .ensures) ∙ not-false _ (c .before .if1 .left)) (c .evaluate .ensures)
 
 pub value-fit-spec : {M : Type 1} → statement M
 value-fit-spec =

@@ -9,9 +9,6 @@ use Rattle.formula.proofs.instance.held_after.Tie as tie
 returns : tie.Need-returns
 returns c = let a = c .before .before .args in (rw (c .parts-of .ensures .0) (after-held (a .x) (a .held) (a .word) (c .before .if1 .taken)), omega (arith, c .parts-of .ensures .1))
 
-returns-2 : tie.Need-returns-2
-returns-2 c = let a = c .before .before .args in (after-all (a .x) (a .held) (a .word) (omega arith) (c .if2 .taken), omega arith)
-
 returns-3 : tie.Need-returns-3
 returns-3 c = let a = c .before .before .before .args in (after-any (a .x) (a .held) (a .word) (omega arith) (c .before .if2 .left) (c .if3 .taken), omega arith)
 
@@ -28,7 +25,7 @@ held-after-spec =
     returns
     (λ c. search needs)
     (λ c. search needs)
-    returns-2
+    (λ c. let a = c .before .before .args in (after-all (a .x) (a .held) (a .word) (omega arith) (c .if2 .taken), omega arith))
     (λ c. search needs)
     (λ c. search needs)
     returns-3

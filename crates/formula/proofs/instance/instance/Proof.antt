@@ -17,40 +17,25 @@ Inv-loop work₀ at end x v to held₀ i₀ j₀ work held i j =
 abbrev μ-loop : tie.MeasureT-loop
 μ-loop work₀ at end x v to held₀ i₀ j₀ work held i j = end - i
 
-loop-holds : tie.Need-loop-holds Inv-loop μ-loop
-loop-holds c = (omega arith, omega arith, omega arith, ahead-start _ _ _)
-
-mul-word : tie.Need-mul-word Inv-loop μ-loop
-mul-word c = omega (arith, ahead-length (c .before .loop .inv .3))
-
-slice-read-word : tie.Need-slice-read-word Inv-loop μ-loop
-slice-read-word c = omega (arith, ahead-length (c .before .before .loop .inv .3))
-
 put-requires : tie.Need-put-requires Inv-loop μ-loop
 put-requires c κs =
-    let loop = c .before .before .before .before .loop in
-    let a = c .before .before .before .before .before .before .args in
+    let turn = c .before .before .before .before in let a = turn .before .before .args in
     let s = slice (a .at) (a .end) (a .work .now) in
-    omega (arith, loop .inv .3 .ends, length-wordsWith (a .x) (a .v) s 0, length-slice (a .at) (a .end) (a .work .now) (omega arith))
+    omega (arith, turn .loop .inv .3 .ends, length-wordsWith (a .x) (a .v) s 0, length-slice (a .at) (a .end) (a .work .now) (omega arith))
 
 loop-again : tie.Need-loop-again Inv-loop μ-loop
 loop-again c =
-    let put = c .before .before .before .put in
-    let word-with = c .before .before .before .before .word-with in
-    let loop = c .before .before .before .before .before .before .before .before .loop in
-    let a = c .before .before .before .before .before .before .before .before .before .before .args in
-    let l = loop in
+    let put-here = c .before .before .before in let sought = put-here .before in
+    let turn = sought .before .before .before .before in let a = turn .before .before .args in
+    let l = turn .loop in
     let same = ahead-read (l .inv .3) (l .i) (omega arith) in (
       omega arith,
       omega arith,
       omega (arith, c .held-after .ensures .1),
       ahead-turn (l .inv .3)
-          (rw (word-with .ensures, c .held-after .ensures .0, same) (wordsWith-next (a .x) (a .v) (a .work .now) (a .end) (l .held) (l .i) (omega arith) (omega arith)))
-          (put .ensures),
+          (rw (sought .word-with .ensures, c .held-after .ensures .0, same) (wordsWith-next (a .x) (a .v) (a .work .now) (a .end) (l .held) (l .i) (omega arith) (omega arith)))
+          (put-here .put .ensures),
     )
-
-same-length : tie.Need-same-length Inv-loop μ-loop
-same-length c = ahead-length (c .before .loop .inv .3)
 
 returns : tie.Need-returns Inv-loop μ-loop
 returns c =
@@ -63,14 +48,14 @@ instance-spec =
     (tie.spec
     Inv-loop
     μ-loop
-    loop-holds
-    mul-word
-    slice-read-word
+    (λ c. (omega arith, omega arith, omega arith, ahead-start _ _ _))
+    (λ c. omega (arith, ahead-length (c .before .loop .inv .3)))
+    (λ c. omega (arith, ahead-length (c .before .before .loop .inv .3)))
     (λ c κs. search needs)
     put-requires
     (λ c κs. search needs)
     (λ c. search needs)
     (λ c. search needs)
     loop-again
-    same-length
+    (λ c. ahead-length (c .before .loop .inv .3))
     returns)

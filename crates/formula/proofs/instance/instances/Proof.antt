@@ -3,7 +3,7 @@
 use borrow.Author.Needs.{needs}
 use native.Mathlib.Omega.{arith}
 use Prim.Native.Nat.{_+_, _-_, _≤_}
-use lib.ListN.{take}
+use lib.ListN.{length, take}
 use lib.Seq.{slice}
 use Rattle.words.proofs.memory.Storing.{Ahead, ahead-start, ahead-turn, ahead-end, ahead-length, ahead-slice}
 use Rattle.formula.specs.memory.Instances.{copies}
@@ -18,8 +18,9 @@ Inv-loop work₀ at end x domain to flags i₀ j₀ work i j =
 abbrev μ-loop : tie.MeasureT-loop
 μ-loop work₀ at end x domain to flags i₀ j₀ work i j = domain - i
 
-loop-holds : tie.Need-loop-holds Inv-loop μ-loop
-loop-holds c = (omega arith, ahead-start _ _ _)
+-- a flag for each element
+long : (start : tie.Start Inv-loop μ-loop) → start .args .domain ≤ length (start .args .t5)
+long start = search needs
 
 instance-if-requires : tie.Need-instance-if-requires Inv-loop μ-loop
 instance-if-requires c κs =
@@ -30,18 +31,15 @@ instance-if-requires c κs =
 
 loop-again : tie.Need-loop-again Inv-loop μ-loop
 loop-again c =
-    let loop = c .before .before .before .before .before .loop in
-    let start = c .before .before .before .before .before .before .before in
+    let stored = c .before .before in let top = stored .before .before .before in
+    let start = top .before .before in
     let a = start .args in
-    let l = loop in (
+    let l = top .loop in (
       omega arith,
       ahead-turn (l .inv .1)
-          (rw (ahead-slice (l .inv .1) (a .at) (a .end) (omega (arith, start .pre .0))) (copies-next (a .t5) (a .domain) (l .i) (omega arith) (search needs) (a .x) (slice (a .at) (a .end) (a .work .now))))
-          (c .before .before .instance-if .ensures),
+          (rw (ahead-slice (l .inv .1) (a .at) (a .end) (omega (arith, start .pre .0))) (copies-next (a .t5) (a .domain) (l .i) (omega arith) (long start) (a .x) (slice (a .at) (a .end) (a .work .now))))
+          (stored .instance-if .ensures),
     )
-
-same-length : tie.Need-same-length Inv-loop μ-loop
-same-length c = ahead-length (c .before .loop .inv .1)
 
 returns : tie.Need-returns Inv-loop μ-loop
 returns c =
@@ -54,7 +52,7 @@ instances-spec =
     (tie.spec
     Inv-loop
     μ-loop
-    loop-holds
+    (λ c. (omega arith, ahead-start _ _ _))
     (λ c. search needs)
     (λ c. search needs)
     (λ c. search needs)
@@ -62,5 +60,5 @@ instances-spec =
     (λ c. search needs)
     (λ c. search needs)
     loop-again
-    same-length
+    (λ c. ahead-length (c .before .loop .inv .1))
     returns)

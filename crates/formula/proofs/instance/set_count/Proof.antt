@@ -18,9 +18,6 @@ Inv-loop domain flags i₀ count₀ i count = (i ≤ domain) × (count ≤ i) ×
 abbrev μ-loop : tie.MeasureT-loop
 μ-loop domain flags i₀ count₀ i count = domain - i
 
-loop-holds : tie.Need-loop-holds Inv-loop μ-loop
-loop-holds c = (omega arith, omega arith, omega arith)
-
 loop-again : tie.Need-loop-again Inv-loop μ-loop
 loop-again c =
     let start = c .before .before .before in
@@ -44,7 +41,7 @@ set-count-spec =
     (tie.spec
     Inv-loop
     μ-loop
-    loop-holds
+    (λ c. (omega arith, omega arith, omega arith))
     (λ c. search needs)
     (λ c. search needs)
     (λ c. search needs)

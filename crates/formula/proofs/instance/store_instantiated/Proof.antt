@@ -22,23 +22,21 @@ past-requires c κs =
 
 instances-requires : tie.Need-instances-requires
 instances-requires c κs =
-    let put = c .before .before .before .put in
-    let past = c .before .before .before .before .before .before .before .past in
-    let slice-known2 = c .before .before .before .before .before .before .before .before .before .slice-known2 in
-    let start = c .before .before .before .before .before .before .before .before .before .before .before in
-    let l = length-take-le (start .args .end) (start .args .work .now) (omega (arith, start .pre .0)) in
-    omega (arith, start .pre .0, past .ensures .1, put .ensures .ends, put .kept .0, slice-known2 .given (start .args .at))
+    let stored = c .before .before .before in let passed = stored .before .before .before .before in
+    let begun = passed .before .before .before .before in let put = stored .put in
+    let l = length-take-le (begun .args .end) (begun .args .work .now) (omega (arith, begun .pre .0)) in
+    omega (arith, begun .pre .0, passed .past .ensures .1, put .ensures .ends, put .kept .0, passed .before .before .slice-known2 .given (begun .args .at))
 
 returns : tie.Need-returns
 returns c =
-    let put = c .before .before .before .before .before .before .put in
-    let junction-word = c .before .before .before .before .before .before .before .junction-word in
-    let set-count = c .before .before .before .before .before .before .before .before .before .set-count in
-    let past = c .before .before .before .before .before .before .before .before .before .before .past in
-    let start = c .before .before .before .before .before .before .before .before .before .before .before .before .before .before in
-    let a = start .args in
-    instantiated-stores (a .at) (a .end) (past .result) (getD (a .work .now) (a .at) 0) (junction-word .result) (take (a .domain) (a .flags)) (omega (arith, start .pre .0)) (past .ensures .0)
-    (junction-word .ensures ∙ rw (set-count .ensures .0)) (put .ensures) (c .before .before .instances .ensures)
+    let instanced = c .before .before in let stored = instanced .before .before .before .before in
+    let junction = stored .before in let counting = junction .before .before in
+    let passed = counting .before in let begun = passed .before .before .before .before in
+    let junction-word = junction .junction-word in
+    let past = passed .past in
+    let a = begun .args in
+    instantiated-stores (a .at) (a .end) (past .result) (getD (a .work .now) (a .at) 0) (junction-word .result) (take (a .domain) (a .flags)) (omega (arith, begun .pre .0)) (past .ensures .0)
+    (junction-word .ensures ∙ rw (counting .set-count .ensures .0)) (stored .put .ensures) (instanced .instances .ensures)
 
 pub store-instantiated-spec : {M : Type 1} → statement M
 store-instantiated-spec =

@@ -42,9 +42,6 @@ past-requires c κs =
     let l = length-take-le (start .args .full) (start .args .work .now) (omega (arith, start .pre .0)) in
     omega (arith, start .pre .0)
 
-copy-requires : tie.Need-copy-requires
-copy-requires c κs = omega (arith, begun (c .before) .pre .0)
-
 store-decided-requires : tie.Need-store-decided-requires
 store-decided-requires c κs =
     let copied = c .before .before .before in
@@ -91,7 +88,7 @@ rewrite-spec =
     (λ c. search needs)
     slice-aggregate-past
     past-requires
-    copy-requires
+    (λ c κs. omega (arith, begun (c .before) .pre .0))
     store-decided-requires
     copy-requires-2
     sub-result

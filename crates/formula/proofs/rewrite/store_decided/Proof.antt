@@ -22,11 +22,10 @@ returns-3 c =
 
 returns-4 : tie.Need-returns-4
 returns-4 c =
-    let stored = c .before .before in
-    let start = stored .before .before .before .before .before in
-    let a = start .args in
-    let whole = slice-next (a .at) (a .end) (a .work .now) (start .pre .1) (start .pre .0 .within) in
-    rw (stored .before .before .enum-told2 .given .1) (rw whole at (stored .copy .ensures))
+    let stored = c .before .before in let copying = stored .before in
+    let begun = copying .before .before .before .before in let a = begun .args in
+    let whole = slice-next (a .at) (a .end) (a .work .now) (begun .pre .1) (begun .pre .0 .within) in
+    rw (copying .before .enum-told2 .given .1) (rw whole at (stored .copy .ensures))
 
 pub store-decided-spec : {M : Type 1} → statement M
 store-decided-spec =

@@ -18,45 +18,36 @@ Inv-loop work₀ at end count value to unwanted i₀ pending₀ j₀ work i pend
 abbrev μ-loop : tie.MeasureT-loop
 μ-loop work₀ at end count value to unwanted i₀ pending₀ j₀ work i pending j = pending
 
-loop-holds : tie.Need-loop-holds Inv-loop μ-loop
-loop-holds c = (omega (arith, c .before .before .pre .0), ahead-start _ _ _)
-
-slice-reshare-prefix-peek : tie.Need-slice-reshare-prefix-peek Inv-loop μ-loop
-slice-reshare-prefix-peek c =
-    let start = c .before .before .before .before in
-    omega (arith, start .pre .0, ahead-length (c .before .loop .inv .1))
-
 slice-aggregate-peek : tie.Need-slice-aggregate-peek Inv-loop μ-loop
 slice-aggregate-peek c =
-    let loop = c .before .before .loop in
-    let start = c .before .before .before .before .before in
-    sym (length-take-le (start .args .end) (loop .work) (omega (arith, start .pre .0, ahead-length (loop .inv .1))))
+    let turn = c .before .before in let begun = turn .before .before .before in
+    let loop = turn .loop in
+    sym (length-take-le (begun .args .end) (loop .work) (omega (arith, begun .pre .0, ahead-length (loop .inv .1))))
 
 slice-reshare-prefix-past : tie.Need-slice-reshare-prefix-past Inv-loop μ-loop
 slice-reshare-prefix-past c =
-    let loop = c .before .before .before .loop in
-    let start = c .before .before .before .before .before .before in
-    omega (arith, start .pre .0, ahead-length (loop .inv .1))
+    let turn = c .before .before .before in
+    omega (arith, turn .before .before .before .pre .0, ahead-length (turn .loop .inv .1))
 
 slice-aggregate-past : tie.Need-slice-aggregate-past Inv-loop μ-loop
 slice-aggregate-past c =
-    let loop = c .before .before .before .before .loop in
-    let start = c .before .before .before .before .before .before .before in
-    sym (length-take-le (start .args .end) (loop .work) (omega (arith, start .pre .0, ahead-length (loop .inv .1))))
+    let turn = c .before .before .before .before in let begun = turn .before .before .before in
+    let loop = turn .loop in
+    sym (length-take-le (begun .args .end) (loop .work) (omega (arith, begun .pre .0, ahead-length (loop .inv .1))))
 
 past-requires : tie.Need-past-requires Inv-loop μ-loop
 past-requires c κs =
-    let loop = c .before .before .before .before .loop in
-    let start = c .before .before .before .before .before .before .before in
-    let l = length-take-le (start .args .end) (loop .work) (omega (arith, start .pre .0, ahead-length (loop .inv .1))) in
-    omega (arith, start .pre .0, loop .inv)
+    let turn = c .before .before .before .before in let begun = turn .before .before .before in
+    let loop = turn .loop in
+    let l = length-take-le (begun .args .end) (loop .work) (omega (arith, begun .pre .0, ahead-length (loop .inv .1))) in
+    omega (arith, begun .pre .0, loop .inv)
 
 copy-unless-requires : tie.Need-copy-unless-requires Inv-loop μ-loop
 copy-unless-requires c κs =
-    let loop = c .before .before .before .before .before .before .loop in
-    let start = c .before .before .before .before .before .before .before .before .before in
-    let a = start .args in
-    let p = start .pre .0 in
+    let peeked = c .before .before .before in let turn = peeked .before .before .before in
+    let begun = turn .before .before .before in let loop = turn .loop in
+    let a = begun .args in
+    let p = begun .pre .0 in
     let h = loop .inv .1 in
     let l = length-take-le (a .end) (loop .work) (omega (arith, p, ahead-length h)) in
     let range = length-slice (a .at) (a .end) (a .work .now) (omega (arith, p)) in
@@ -64,14 +55,13 @@ copy-unless-requires c κs =
 
 loop-again : tie.Need-loop-again Inv-loop μ-loop
 loop-again c =
-    let past = c .before .before .before .before .past in
-    let peek = c .before .before .before .before .before .before .peek in
-    let loop = c .before .before .before .before .before .before .before .before .before .loop in
-    let truth-word = c .before .before .before .before .before .before .before .before .before .before .truth-word in
-    let start = c .before .before .before .before .before .before .before .before .before .before .before .before in
-    let a = start .args in
-    let p = start .pre .0 in
-    let l = loop in
+    let copied = c .before .before in let passed = copied .before .before in
+    let peeked = passed .before .before in let turn = peeked .before .before .before in
+    let sought = turn .before in let begun = sought .before .before in
+    let past = passed .past in
+    let a = begun .args in
+    let p = begun .pre .0 in
+    let l = turn .loop in
     let h = l .inv .1 in
     let long = length-take-le (a .end) (l .work) (omega (arith, p, ahead-length h)) in
     let same = ahead-slice h (l .i) (a .end) (omega (arith, p)) in
@@ -79,12 +69,9 @@ loop-again c =
     let next = wordsWithout-next (a .value) (a .work .now) (l .i) (a .end) (l .pending) (past .result) (omega arith) (rw same at (past .ensures .0)) within in (
       within,
       ahead-turn h
-          (rw (ahead-slice h (l .i) (past .result) (omega (arith, p, within)), peek .ensures, ahead-take h (a .end) (omega (arith, p)), truth-word .ensures) next)
-          (c .before .before .copy-unless .ensures),
+          (rw (ahead-slice h (l .i) (past .result) (omega (arith, p, within)), peeked .peek .ensures, ahead-take h (a .end) (omega (arith, p)), sought .truth-word .ensures) next)
+          (copied .copy-unless .ensures),
     )
-
-same-length : tie.Need-same-length Inv-loop μ-loop
-same-length c = ahead-length (c .before .loop .inv .1)
 
 returns : tie.Need-returns Inv-loop μ-loop
 returns c =
@@ -98,8 +85,8 @@ copy-others-spec =
     Inv-loop
     μ-loop
     (λ c κs. search needs)
-    loop-holds
-    slice-reshare-prefix-peek
+    (λ c. (omega (arith, c .before .before .pre .0), ahead-start _ _ _))
+    (λ c. let start = c .before .before .before .before in omega (arith, start .pre .0, ahead-length (c .before .loop .inv .1)))
     slice-aggregate-peek
     (λ c κs. search needs)
     slice-reshare-prefix-past
@@ -109,5 +96,5 @@ copy-others-spec =
     (λ c. search needs)
     (λ c. search needs)
     loop-again
-    same-length
+    (λ c. ahead-length (c .before .loop .inv .1))
     returns)

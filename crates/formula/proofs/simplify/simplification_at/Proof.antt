@@ -15,17 +15,15 @@ returns c =
 
 returns-2 : tie.Need-returns-2
 returns-2 c =
-    let truth-count = c .before .before .before .truth-count in
-    let a = c .before .before .before .before .before .args in
+    let counted = c .before .before .before in let a = counted .before .before .args in
     let s = drop (a .at) (a .work .now) in
-    (emptied (a .every) (a .parts) s (omega (arith, truth-count .ensures .0)) (omega (arith, c .before .truth-count2 .ensures .0)), tt)
+    (emptied (a .every) (a .parts) s (omega (arith, counted .truth-count .ensures .0)) (omega (arith, c .before .truth-count2 .ensures .0)), tt)
 
 returns-3 : tie.Need-returns-3
 returns-3 c =
-    let truth-count = c .before .before .before .truth-count in
-    let a = c .before .before .before .before .before .args in
+    let counted = c .before .before .before in let a = counted .before .before .args in
     let s = drop (a .at) (a .work .now) in
-    (rw (c .before .truth-count2 .ensures .0) (reduced (a .every) (a .parts) s (omega (arith, truth-count .ensures .0)) (λ e. c .if2 .left (rw (c .before .truth-count2 .ensures .0) e))), omega arith)
+    (rw (c .before .truth-count2 .ensures .0) (reduced (a .every) (a .parts) s (omega (arith, counted .truth-count .ensures .0)) (λ e. c .if2 .left (rw (c .before .truth-count2 .ensures .0) e))), omega arith)
 
 pub simplification-at-spec : {M : Type 1} → statement M
 simplification-at-spec =

@@ -3,7 +3,7 @@
 use borrow.Author.Needs.{needs}
 use native.Mathlib.Omega.{arith}
 use Prim.Native.Nat.{_+_, _/_}
-use mathlib.Core.Path.{sym, subst, _∙_}
+use mathlib.Core.Path.{sym, subst}
 use lib.ListN.{getD}
 use lib.Seq.{length-take-le}
 use Rattle.formula.specs.memory.Simplified.{Fewer}
@@ -24,39 +24,35 @@ simplification-at-requires c κs =
 
 junction-word-requires : tie.Need-junction-word-requires
 junction-word-requires c κs =
-    let simplification-at = c .before .before .before .before .simplification-at in
-    let slice-known2 = c .before .before .before .before .before .before .slice-known2 in
-    let start = c .before .before .before .before .before .before .before .before in
-    let n = getD (start .args .work .now) (start .args .at) 0 / 16 in
-    let few = subst (Fewer n) (c .before .before .count .given .1) (simplification-at .ensures .1) in
-    omega (arith, few, slice-known2 .given (start .args .at))
+    let counted = c .before .before in let simplified = counted .before .before in
+    let begun = simplified .before .before .before .before in
+    let n = getD (begun .args .work .now) (begun .args .at) 0 / 16 in
+    let few = subst (Fewer n) (counted .count .given .1) (simplified .simplification-at .ensures .1) in
+    omega (arith, few, simplified .before .before .slice-known2 .given (begun .args .at))
 
 copy-others-requires : tie.Need-copy-others-requires
 copy-others-requires c κs =
-    let put2 = c .before .before .before .put2 in
-    let start = c .before .before .before .before .before .before .before .before .before .before .before .before .before in
-    omega (arith, start .pre .0, put2 .ensures .ends, put2 .kept .0)
+    let second-stored = c .before .before .before in
+    let counted = second-stored .before .before .before .before in
+    let simplified = counted .before .before in let put2 = second-stored .put2 in
+    omega (arith, simplified .before .before .before .before .pre .0, put2 .ensures .ends, put2 .kept .0)
 
 returns : tie.Need-returns
 returns c =
-    let truth-word = c .before .before .before .truth-word in
-    let b = c .before .before .before .before .before .before .b in
-    let simplification-at = c .before .before .before .before .before .before .before .before .simplification-at in
-    let start = c .before .before .before .before .before .before .before .before .before .before .before .before in
-    let a = start .args in
-    value-stores (a .every) (getD (a .work .now) (a .at) 0 / 16) (a .work .now) (a .at + 1) (a .end) (omega (arith, start .pre .0)) _
-    (sym (simplification-at .ensures .0) ∙ b .given .1) (truth-word .ensures) (c .before .before .put .ensures)
+    let stored = c .before .before in let sought = stored .before in
+    let told = sought .before .before .before in let simplified = told .before .before in
+    let begun = simplified .before .before .before .before in let a = begun .args in
+    value-stores (a .every) (getD (a .work .now) (a .at) 0 / 16) (a .work .now) (a .at + 1) (a .end) (omega (arith, begun .pre .0)) (simplified .simplification-at .ensures .0) _ (told .b .given .1)
+    (sought .truth-word .ensures) (stored .put .ensures)
 
 returns-2 : tie.Need-returns-2
 returns-2 c =
-    let put2 = c .before .before .before .before .before .before .put2 in
-    let junction-word = c .before .before .before .before .before .before .before .junction-word in
-    let count = c .before .before .before .before .before .before .before .before .before .before .count in
-    let simplification-at = c .before .before .before .before .before .before .before .before .before .before .before .before .simplification-at in
-    let start = c .before .before .before .before .before .before .before .before .before .before .before .before .before .before .before .before in
-    let a = start .args in
-    parts-stores (a .every) (getD (a .work .now) (a .at) 0 / 16) (a .work .now) (a .at + 1) (a .end) (omega (arith, start .pre .0)) _
-    (sym (simplification-at .ensures .0) ∙ count .given .1) (junction-word .ensures) (put2 .ensures) (c .before .before .copy-others .ensures)
+    let copied = c .before .before in let second-stored = copied .before .before .before .before in
+    let junction = second-stored .before in
+    let counted = junction .before .before .before in let simplified = counted .before .before in
+    let begun = simplified .before .before .before .before in let a = begun .args in
+    parts-stores (a .every) (getD (a .work .now) (a .at) 0 / 16) (a .work .now) (a .at + 1) (a .end) (omega (arith, begun .pre .0)) (simplified .simplification-at .ensures .0) _ (counted .count .given .1)
+    (junction .junction-word .ensures) (second-stored .put2 .ensures) (copied .copy-others .ensures)
 
 pub store-simplified-spec : {M : Type 1} → statement M
 store-simplified-spec =

@@ -18,27 +18,13 @@ Inv-loop work at count value sought i₀ pending₀ found₀ i pending found =
 abbrev μ-loop : tie.MeasureT-loop
 μ-loop work at count value sought i₀ pending₀ found₀ i pending found = pending
 
-loop-holds : tie.Need-loop-holds Inv-loop μ-loop
-loop-holds c = (omega arith, omega arith, omega arith)
-
-past-requires : tie.Need-past-requires Inv-loop μ-loop
-past-requires c κs =
-    let loop = c .before .before .before .loop in
-    omega (arith, loop .inv)
-
-sub-pending : tie.Need-sub-pending Inv-loop μ-loop
-sub-pending c = omega arith
-
-loop-less : tie.Need-loop-less Inv-loop μ-loop
-loop-less c = omega arith
-
 loop-again : tie.Need-loop-again Inv-loop μ-loop
 loop-again c =
-    let peek = c .before .before .peek in
-    let loop = c .before .before .before .before .loop in
-    let truth-word = c .before .before .before .before .before .truth-word in
-    let a = c .before .before .before .before .before .before .before .args in
-    let l = loop in
+    let peeked = c .before .before in let turn = peeked .before .before in
+    let word-sought = turn .before in let peek = peeked .peek in
+    let truth-word = word-sought .truth-word in
+    let a = word-sought .before .before .args in
+    let l = turn .loop in
     ⊎-elim
     (λ w. let z = truthCount-found (a .value) (a .work .now) (l .i) (l .pending) (omega arith) (sym (peek .ensures) ∙ w .0 .taken ∙ truth-word .ensures) in
     (c .past .ensures .1, omega (arith, w .1), rw (c .past .ensures .0) (omega (arith, l .inv .2, w .1))))
@@ -60,11 +46,11 @@ truth-count-spec =
     Inv-loop
     μ-loop
     (λ c κs. search needs)
-    loop-holds
+    (λ c. (omega arith, omega arith, omega arith))
     (λ c κs. search needs)
     (λ c. search needs)
-    past-requires
-    sub-pending
-    loop-less
+    (λ c κs. let loop = c .before .before .before .loop in omega (arith, loop .inv))
+    (λ c. omega arith)
+    (λ c. omega arith)
     loop-again
     returns)
