@@ -10,6 +10,7 @@ ghost use mathlib.Core.Path.{_≡_};
 ghost use Prim.Native.Nat.{_≤_, _<_};
 ghost use mathlib.Core.Bool.{_&&_};
 ghost use lib.ListN.{length, drop};
+ghost use Rattle.text.specs.memory.Sizes.{InWork};
 ghost use Rattle.words.specs.memory.Kinds.{elementsAt};
 ghost use Rattle.clauses.specs.memory.Clauses.{isOutputIndex, groundAtomAt, allAt, connectiveClauseAt, clauseAt};
 
@@ -52,7 +53,7 @@ fn is_ground_atom_at(work: &[u32], at: usize, table: Table) -> bool
 
 // Whether the formula at a place is a ground clause.
 fn is_clause_at(work: &[u32], at: usize, levels: usize, table: Table) -> bool
-    requires { ⌜ (at ≤ length (now work)) × (length (now work) ≤ 16384) ⌝ }
+    requires { ⌜ (at ≤ length (now work)) × InWork (now work) ⌝ }
     ensures { λ r. ⌜ r ≡ clauseAt table levels (drop at (now (work .entry))) ⌝ }
 {
     if levels == 0 {
@@ -91,7 +92,7 @@ fn is_connective_clause(
     count: u32,
     table: Table,
 ) -> bool
-    requires { ⌜ (at ≤ length (now work)) × (length (now work) ≤ 16384) ⌝ }
+    requires { ⌜ (at ≤ length (now work)) × InWork (now work) ⌝ }
     ensures { λ r. ⌜ r ≡ connectiveClauseAt table (clauseAt table levels) sign count (drop at (now (work .entry))) ⌝ }
 {
     match sign {
@@ -118,7 +119,7 @@ fn is_connective_clause(
 
 // Whether so many formulas, one after the other, are ground clauses.
 pub fn are_clauses_at(work: &[u32], at: usize, levels: usize, count: u32, table: Table) -> bool
-    requires { ⌜ (at ≤ length (now work)) × (length (now work) ≤ 16384) ⌝ }
+    requires { ⌜ (at ≤ length (now work)) × InWork (now work) ⌝ }
     ensures { λ r. ⌜ r ≡ allAt (clauseAt table levels) count (drop at (now (work .entry))) ⌝ }
 {
     let mut i = at;

@@ -6,18 +6,15 @@ use text::byte::peek;
 use text::byte::run_end;
 use text::number::Number;
 use text::number::number_at;
+use text::size::GREATEST_NAME;
+use text::size::GREATEST_PATH_NUMBER;
+use text::size::GROUNDER_SIZE;
 ghost use Prim.Native.Nat.{_≤_, _<_};
 ghost use lib.ListN.{length, drop};
 ghost use Rattle.grammar.specs.Reading.{refuse, oneOf, separated};
 ghost use Rattle.grammar.specs.Derivation.{readRanged, readPath, atPosition, readSplit, readFooter, lineKinds, readLine, readVersion, readGrounder};
 ghost use Rattle.text.specs.memory.Numbers.{beyond};
 ghost use Rattle.derivation.specs.memory.RuleLines.{makeOf, readFinalNames, ToldWord, ToldEnd, ToldRanged, ToldNumbers, ToldPosition, ToldKind, ToldLine};
-
-const GREATEST_NAME: u32 = 65535;
-
-const GREATEST_PATH_NUMBER: u32 = 4095;
-
-const GROUNDER_SIZE: usize = 31;
 
 // The rules that change a formula, or a part of one.
 pub enum Rule {

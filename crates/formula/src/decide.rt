@@ -2,6 +2,7 @@
 use derivation::rule_line::Rule;
 use guards::guard::evaluate;
 use table::table::Table;
+use text::size::VARIABLE_COUNT;
 use words::word::Kind;
 use words::word::Sign;
 use words::word::are_elements;
@@ -10,6 +11,7 @@ use words::word::peek;
 ghost use mathlib.Core.Path.{_≡_};
 ghost use Prim.Native.Nat.{_≤_, _<_};
 ghost use lib.ListN.{length, drop};
+ghost use Rattle.text.specs.memory.Sizes.{InWork, FewElements};
 ghost use Rattle.formula.specs.memory.Deciding.{signFit, junctionFit, negatedFit, isNegation, negationFit, quantifierFit, valueFit, inputFit, evaluationFit, ruleFit};
 
 // What a rule makes of a formula.
@@ -142,19 +144,19 @@ fn quantifier_fit(kind: Kind) -> Fit
 
 // The value of an atom or equality of some terms, if they are elements.
 fn value_fit(work: &[u32], at: usize, terms: u32, table: Table, rows: &[u32]) -> Fit
-    requires { ⌜ (at ≤ length (now work)) × (length (now work) ≤ 16384) × (table .domain ≤ 64) × (terms ≤ 4) ⌝ }
+    requires { ⌜ (at ≤ length (now work)) × InWork (now work) × FewElements (table .domain) × (terms ≤ 4) ⌝ }
     ensures { λ r. ⌜ r ≡ valueFit table (now (rows .entry)) terms (drop at (now (work .entry))) ⌝ }
 {
     if !are_elements(work, at + 1, terms) {
         return Fit::Misfit;
     }
-    let values = [0u8; 64];
+    let values = [0u8; VARIABLE_COUNT];
     Fit::Value(evaluate(work, at, 1, values, table, rows))
 }
 
 // The value of an atom of an input predicate.
 fn input_fit(work: &[u32], at: usize, predicate: u32, terms: u32, table: Table, rows: &[u32]) -> Fit
-    requires { ⌜ (at ≤ length (now work)) × (length (now work) ≤ 16384) × (table .domain ≤ 64) ⌝ }
+    requires { ⌜ (at ≤ length (now work)) × InWork (now work) × FewElements (table .domain) ⌝ }
     ensures { λ r. ⌜ r ≡ inputFit table (now (rows .entry)) predicate terms (drop at (now (work .entry))) ⌝ }
 {
     if predicate < table.inputs {
@@ -172,7 +174,7 @@ fn evaluation_fit(
     table: Table,
     rows: &[u32],
 ) -> Fit
-    requires { ⌜ (at ≤ length (now work)) × (length (now work) ≤ 16384) × (table .domain ≤ 64) ⌝ }
+    requires { ⌜ (at ≤ length (now work)) × InWork (now work) × FewElements (table .domain) ⌝ }
     ensures { λ r. ⌜ r ≡ evaluationFit table (now (rows .entry)) some kind (drop at (now (work .entry))) ⌝ }
 {
     match kind {
@@ -200,7 +202,7 @@ fn evaluation_fit(
 
 // What a rule makes of the formula at a place.
 pub fn rule_fit(rule: Rule, work: &[u32], at: usize, table: Table, rows: &[u32]) -> Fit
-    requires { ⌜ (at ≤ length (now work)) × (length (now work) ≤ 16384) × (table .domain ≤ 64) ⌝ }
+    requires { ⌜ (at ≤ length (now work)) × InWork (now work) × FewElements (table .domain) ⌝ }
     ensures { λ r. ⌜ r ≡ ruleFit table (now (rows .entry)) rule (drop at (now (work .entry))) ⌝ }
 {
     let kind = kind_of(peek(work, at));

@@ -1,4 +1,5 @@
 // IQ in memory: the body of a quantifier is copied once for each element whose flag is set, with the element for the variable.
+use text::size::DOMAIN_SIZE;
 use words::head::junction_word;
 use words::store::put;
 use words::tag::ELEMENT;
@@ -13,12 +14,14 @@ ghost use mathlib.Core.Bool.{cond};
 ghost use Prim.Native.Nat.{_+_, _≤_, _<_};
 ghost use lib.ListN.{getD, take};
 ghost use lib.Seq.{slice};
+ghost use Rattle.text.specs.memory.Sizes.{FewElements};
 ghost use Rattle.words.specs.memory.Storing.{Stores, Behind};
+ghost use Rattle.words.specs.memory.Words.{Payload};
 ghost use Rattle.formula.specs.memory.Instances.{wordWith, heldAfter, wordsWith, copies, setCount, instantiatedWords};
 
 // A word with an element for a variable, where some formulas are still to be copied as they are.
 fn word_with(x: u32, v: u32, held: usize, word: u32) -> u32
-    requires { ⌜ (x < 268435456) × (v < 256) ⌝ }
+    requires { ⌜ Payload x × (v < 256) ⌝ }
     ensures { λ r. ⌜ r ≡ wordWith x v held word ⌝ }
 {
     if held > 0 {
@@ -32,7 +35,7 @@ fn word_with(x: u32, v: u32, held: usize, word: u32) -> u32
 
 // How many formulas are to be copied as they are after a word.
 fn held_after(x: u32, held: usize, word: u32) -> usize
-    requires { ⌜ (x < 268435456) × (held < 1000000000000000) ⌝ }
+    requires { ⌜ Payload x × (held < 1000000000000000) ⌝ }
     ensures { λ r. ⌜ (r ≡ heldAfter x held word) × (r ≤ held + 4294967296) ⌝ }
 {
     if held > 0 {
@@ -49,7 +52,7 @@ fn held_after(x: u32, held: usize, word: u32) -> usize
 
 // Copies a range with an element for a variable.
 fn instance(work: &mut [u32], at: usize, end: usize, x: u32, v: u32, to: usize) -> usize
-    requires { ⌜ Behind (now work) at end to × (x < 268435456) × (v < 256) ⌝ }
+    requires { ⌜ Behind (now work) at end to × Payload x × (v < 256) ⌝ }
     ensures { λ r. ⌜ Stores (now (work .entry)) to (wordsWith x v (slice at end (now (work .entry))) 0) r (now (work .exit)) ⌝ }
 {
     let mut held: usize = 0;
@@ -73,7 +76,7 @@ fn instance_if(
     v: u32,
     to: usize,
 ) -> usize
-    requires { ⌜ Behind (now work) at end to × (x < 268435456) × (v < 256) ⌝ }
+    requires { ⌜ Behind (now work) at end to × Payload x × (v < 256) ⌝ }
     ensures { λ r. ⌜ Stores (now (work .entry)) to (cond chosen (wordsWith x v (slice at end (now (work .entry))) 0) []) r (now (work .exit)) ⌝ }
 {
     if chosen {
@@ -88,11 +91,11 @@ fn instances(
     at: usize,
     end: usize,
     x: u32,
-    flags: [bool; 64],
+    flags: [bool; DOMAIN_SIZE],
     domain: u32,
     to: usize,
 ) -> usize
-    requires { ⌜ Behind (now work) at end to × (to ≤ 1000000) × (x < 268435456) × (domain ≤ 64) ⌝ }
+    requires { ⌜ Behind (now work) at end to × (to ≤ 1000000) × Payload x × FewElements domain ⌝ }
     ensures { λ r. ⌜ Stores (now (work .entry)) to (copies (take domain flags) x (slice at end (now (work .entry))) 1) r (now (work .exit)) ⌝ }
 {
     let mut i: u32 = 0;
@@ -105,8 +108,8 @@ fn instances(
 }
 
 // How many of the first flags are set.
-fn set_count(flags: [bool; 64], domain: u32) -> u32
-    requires { ⌜ domain ≤ 64 ⌝ }
+fn set_count(flags: [bool; DOMAIN_SIZE], domain: u32) -> u32
+    requires { ⌜ FewElements domain ⌝ }
     ensures { λ r. ⌜ (r ≡ setCount (take domain flags)) × (r ≤ domain) ⌝ }
 {
     let mut i: u32 = 0;
@@ -125,11 +128,11 @@ pub fn store_instantiated(
     work: &mut [u32],
     at: usize,
     end: usize,
-    flags: [bool; 64],
+    flags: [bool; DOMAIN_SIZE],
     domain: u32,
     to: usize,
 ) -> usize
-    requires { ⌜ Behind (now work) at end to × (at < end) × (to ≤ 100000) × (domain ≤ 64) ⌝ }
+    requires { ⌜ Behind (now work) at end to × (at < end) × (to ≤ 100000) × FewElements domain ⌝ }
     ensures { λ r. ⌜ Stores (now (work .entry)) to (instantiatedWords (getD (now (work .entry)) at 0) (slice (at + 1) end (now (work .entry))) (take domain flags)) r (now (work .exit)) ⌝ }
 {
     let word = work[at];

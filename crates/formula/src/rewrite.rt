@@ -2,6 +2,7 @@
 use crate::decide::Fit;
 use crate::instance::store_instantiated;
 use crate::simplify::store_simplified;
+use text::size::DOMAIN_SIZE;
 use words::head::truth_word;
 use words::store::copy;
 use words::store::put;
@@ -9,6 +10,7 @@ use words::walk::past;
 ghost use Prim.Native.Nat.{_+_, _≤_, _<_};
 ghost use lib.ListN.{getD, take};
 ghost use lib.Seq.{slice};
+ghost use Rattle.text.specs.memory.Sizes.{FewElements};
 ghost use Rattle.words.specs.memory.Storing.{Stores, Behind, Rewritten};
 ghost use Rattle.formula.specs.memory.Rewriting.{Standing, endWithin, fitWords, rewrittenWords};
 
@@ -18,11 +20,11 @@ fn store_decided(
     at: usize,
     end: usize,
     fit: Fit,
-    flags: [bool; 64],
+    flags: [bool; DOMAIN_SIZE],
     domain: u32,
     to: usize,
 ) -> usize
-    requires { ⌜ Behind (now work) at end to × (at < end) × (to ≤ 100000) × (domain ≤ 64) ⌝ }
+    requires { ⌜ Behind (now work) at end to × (at < end) × (to ≤ 100000) × FewElements domain ⌝ }
     ensures { λ r. ⌜ Stores (now (work .entry)) to (fitWords fit (getD (now (work .entry)) at 0) (slice (at + 1) end (now (work .entry))) (take domain flags)) r (now (work .exit)) ⌝ }
 {
     match fit {
@@ -40,10 +42,10 @@ pub fn rewrite(
     full: usize,
     to: usize,
     fit: Fit,
-    flags: [bool; 64],
+    flags: [bool; DOMAIN_SIZE],
     domain: u32,
 ) -> usize
-    requires { ⌜ Standing (now work) at full to × (domain ≤ 64) ⌝ }
+    requires { ⌜ Standing (now work) at full to × FewElements domain ⌝ }
     ensures { λ r. ⌜ Rewritten (now (work .entry)) at (endWithin (now (work .entry)) at full) full to (rewrittenWords fit (now (work .entry)) at full (take domain flags)) r (now (work .exit)) ⌝ }
 {
     let end = past(&work[..full], at, 1);

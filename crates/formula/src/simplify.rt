@@ -11,6 +11,7 @@ ghost use mathlib.Core.Bool.{cond};
 ghost use Prim.Native.Nat.{_+_, _/_, _≤_, _<_};
 ghost use lib.ListN.{length, getD, drop};
 ghost use lib.Seq.{slice};
+ghost use Rattle.text.specs.memory.Sizes.{InWork};
 ghost use Rattle.words.specs.memory.Storing.{Stores, Behind};
 ghost use Rattle.formula.specs.memory.Simplified.{truthCount, wordsWithout, simplification, simplifiedWords, Fewer};
 
@@ -22,7 +23,7 @@ pub enum Simplified {
 
 // How many of the formulas at a place are a truth value.
 fn truth_count(work: &[u32], at: usize, count: u32, value: bool) -> u32
-    requires { ⌜ (at ≤ length (now work)) × (length (now work) ≤ 16384) ⌝ }
+    requires { ⌜ (at ≤ length (now work)) × InWork (now work) ⌝ }
     ensures { λ r. ⌜ (r ≡ truthCount value count (drop at (now (work .entry)))) × (r ≤ count) ⌝ }
 {
     let sought = truth_word(value);
@@ -41,7 +42,7 @@ fn truth_count(work: &[u32], at: usize, count: u32, value: bool) -> u32
 
 // What is left of the connective of some parts at a place.
 fn simplification_at(work: &[u32], at: usize, parts: u32, every: bool) -> Simplified
-    requires { ⌜ (at ≤ length (now work)) × (length (now work) ≤ 16384) ⌝ }
+    requires { ⌜ (at ≤ length (now work)) × InWork (now work) ⌝ }
     ensures { λ r. ⌜ (r ≡ simplification every parts (drop at (now (work .entry)))) × Fewer parts r ⌝ }
 {
     if truth_count(work, at, parts, !every) > 0 {

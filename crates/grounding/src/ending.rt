@@ -8,6 +8,7 @@ ghost use mathlib.Core.Path.{_≡_};
 ghost use Prim.Native.Nat.{_+_, _≤_};
 ghost use lib.ListN.{length, take, drop};
 ghost use Rattle.text.specs.memory.Numbers.{numbersAt};
+ghost use Rattle.text.specs.memory.Sizes.{ShortText, InWork, NearNumbers};
 ghost use Rattle.steps.specs.memory.Held.{held, endIn};
 ghost use Rattle.steps.specs.memory.Steps.{Few};
 
@@ -21,7 +22,7 @@ pub fn end_number(
     live: Live,
     table: Table,
 ) -> u32
-    requires { ⌜ (length (now text) ≤ 65536) × (names + many ≤ 200000) × Few live × (live .full ≤ start) × (start + live .count ≤ length (now work)) × (length (now work) ≤ 16384) ⌝ }
+    requires { ⌜ ShortText (now text) × NearNumbers names many × Few live × (live .full ≤ start) × (start + live .count ≤ length (now work)) × InWork (now work) ⌝ }
     ensures { λ r. ⌜ r ≡ endIn table (held (take (live .full) (now (work .entry))) (take (live .count) (drop start (now (work .entry)))) (live .top) (live .ended)) (numbersAt (now (text .entry)) names many) ⌝ }
 {
     if !are_listed(text, names, many, work, start, live.count) {

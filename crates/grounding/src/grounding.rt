@@ -15,6 +15,7 @@ ghost use lib.ListN.{length};
 ghost use Rattle.grammar.specs.Outcome.{done};
 ghost use Rattle.grammar.specs.Problem.{problemOf};
 ghost use Rattle.demands.specs.Answer.{grounded};
+ghost use Rattle.text.specs.memory.Sizes.{ShortText, FewElements, FewPredicates};
 ghost use Rattle.table.specs.memory.Table.{problemIn};
 ghost use Rattle.steps.specs.memory.Steps.{rowsIn, heldIn, Arranged, Few};
 ghost use Rattle.grounding.specs.memory.Grounds.{GroundTold, GroundEither, endedIn, EndEither, Refuses, FirstNamed};
@@ -49,7 +50,7 @@ fn refused_by(number: u32, file: u32, line: u32, table: Table) -> Grounded
 
 // A derivation with its end: 10 to 17.
 fn replay_end(text: &[u8], work: &mut [u32], layout: Layout, live: Live, table: Table) -> Grounded
-    requires { ⌜ Arranged layout (length (now work)) × Few live × (table .domain ≤ 64) × (length (now text) ≤ 65536) ⌝ }
+    requires { ⌜ Arranged layout (length (now work)) × Few live × FewElements (table .domain) × ShortText (now text) ⌝ }
     ensures { λ r. ⌜ EndEither (endedIn table (rowsIn layout (now (work .entry))) (heldIn layout live (now (work .entry))) (now (text .entry))) layout table r (now (work .exit)) ⌝ }
 {
     match replay_text(text, work, layout, live, table) {
@@ -100,7 +101,7 @@ fn ground_read(
     layout: Layout,
     table: Table,
 ) -> Grounded
-    requires { ⌜ Arranged layout (length (now work)) × (length (now theory) ≤ 65536) × (length (now derivation) ≤ 65536) × (table .domain ≤ 64) × (table .count ≤ 32) ⌝ }
+    requires { ⌜ Arranged layout (length (now work)) × ShortText (now theory) × ShortText (now derivation) × FewElements (table .domain) × FewPredicates (table .count) ⌝ }
     ensures { λ r. ⌜ (problemOf (now (problem .entry)) ≡ done (problemIn (now (problem .entry)) table (rowsIn layout (now (work .entry)))) → table .inputs ≤ table .count → GroundEither (grounded (now (problem .entry)) (now (theory .entry)) (now (derivation .entry))) (now (problem .entry)) r (now (work .exit))) ⌝ }
 {
     let mut variables = [0u32; 131];
@@ -121,7 +122,7 @@ pub fn ground_theory(
     work: &mut [u32],
     layout: Layout,
 ) -> Grounded
-    requires { ⌜ Arranged layout (length (now work)) × (length (now problem) ≤ 65536) × (length (now theory) ≤ 65536) × (length (now derivation) ≤ 65536) ⌝ }
+    requires { ⌜ Arranged layout (length (now work)) × ShortText (now problem) × ShortText (now theory) × ShortText (now derivation) ⌝ }
     ensures { λ r. ⌜ GroundTold (grounded (now (problem .entry)) (now (theory .entry)) (now (derivation .entry))) (now (problem .entry)) r (now (work .exit)) ⌝ }
 {
     let rows = layout.rows;

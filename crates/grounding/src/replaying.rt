@@ -16,6 +16,7 @@ ghost use mathlib.Core.Path.{_≡_};
 ghost use Prim.Native.Nat.{_≤_, _<_};
 ghost use lib.ListN.{length};
 ghost use Rattle.demands.specs.Replay.{among, derivationFrom};
+ghost use Rattle.text.specs.memory.Sizes.{ShortText, FewElements, FewNumbers};
 ghost use Rattle.derivation.specs.memory.RuleLines.{makeOf, positionAt};
 ghost use Rattle.steps.specs.memory.Held.{Held, steppedIn};
 ghost use Rattle.steps.specs.memory.Steps.{rowsIn, heldIn, Arranged, Few, ToldStep};
@@ -73,7 +74,7 @@ fn step_at(
     path: usize,
     steps: usize,
 ) -> Step
-    requires { ⌜ Arranged layout (length (now work)) × Few live × (table .domain ≤ 64) × (path ≤ length (now text)) × (length (now text) ≤ 65536) × (steps ≤ 65536) ⌝ }
+    requires { ⌜ Arranged layout (length (now work)) × Few live × FewElements (table .domain) × (path ≤ length (now text)) × ShortText (now text) × FewNumbers steps ⌝ }
     ensures { λ r. ⌜ ToldStep (steppedIn table (rowsIn layout (now (work .entry))) (heldIn layout live (now (work .entry))) (makeOf kind (positionAt (now (text .entry)) name path steps))) layout (now (work .entry)) r (now (work .exit)) ⌝ }
 {
     match kind {
@@ -95,7 +96,7 @@ fn replay_line(
     live: Live,
     table: Table,
 ) -> Moved
-    requires { ⌜ Arranged layout (length (now work)) × Few live × (table .domain ≤ 64) × (at < length (now text)) × (length (now text) ≤ 65536) × (3 ≤ line) ⌝ }
+    requires { ⌜ Arranged layout (length (now work)) × Few live × FewElements (table .domain) × (at < length (now text)) × ShortText (now text) × (3 ≤ line) ⌝ }
     ensures { λ r. ⌜ ((first : Held) → ToldMoved table (rowsIn layout (now (work .entry))) first layout (now (work .entry)) (heldIn layout live (now (work .entry))) (now (text .entry)) at line r (now (work .exit))) ⌝ }
 {
     let numbered = read_line(text, at, line);
@@ -146,7 +147,7 @@ fn replay_lines(
     first: Live,
     table: Table,
 ) -> Replayed
-    requires { ⌜ Arranged layout (length (now work)) × Few first × (table .domain ≤ 64) × (at ≤ length (now text)) × (length (now text) ≤ 65536) × (from ≡ 3) ⌝ }
+    requires { ⌜ Arranged layout (length (now work)) × Few first × FewElements (table .domain) × (at ≤ length (now text)) × ShortText (now text) × (from ≡ 3) ⌝ }
     ensures { λ r. ⌜ ((start : Held) (whole : JudgedIn) → GoingIn table (rowsIn layout (now (work .entry))) start whole (now (text .entry)) at from (among (heldIn layout first (now (work .entry))) 0) → ToldReplayed whole layout (rowsIn layout (now (work .entry))) (now (text .entry)) r (now (work .exit))) ⌝ }
 {
     let mut place = at;
@@ -197,7 +198,7 @@ pub fn replay_text(
     live: Live,
     table: Table,
 ) -> Replayed
-    requires { ⌜ Arranged layout (length (now work)) × Few live × (table .domain ≤ 64) × (length (now text) ≤ 65536) ⌝ }
+    requires { ⌜ Arranged layout (length (now work)) × Few live × FewElements (table .domain) × ShortText (now text) ⌝ }
     ensures { λ r. ⌜ ToldReplayed (derivationFrom (steppedIn table (rowsIn layout (now (work .entry)))) (heldIn layout live (now (work .entry))) (now (text .entry))) layout (rowsIn layout (now (work .entry))) (now (text .entry)) r (now (work .exit)) ⌝ }
 {
     match heading_line(text, 0, 1) {

@@ -1,5 +1,7 @@
 // Guards: the value of the formula at a place, in the input structure. Parts are taken from the left until one settles the value.
 use table::table::Table;
+use text::size::MOST_VARIABLES;
+use text::size::VARIABLE_COUNT;
 use words::tag::ELEMENT;
 use words::walk::past;
 use words::word::Kind;
@@ -13,6 +15,7 @@ ghost use Prim.Native.Nat.{_+_, _*_, _%_, _≤_, _<_};
 ghost use lib.Dec.{eqb};
 ghost use lib.ListN.{length, drop, getD, set};
 ghost use Rattle.logic.specs.Meaning.{valueOf, valuesOf, connect, joinAll};
+ghost use Rattle.text.specs.memory.Sizes.{InWork, FewElements};
 ghost use Rattle.table.specs.memory.Table.{packed};
 ghost use Rattle.words.specs.memory.Stored.{indexName, sideOf, connectiveOf, termOf, termsAt};
 ghost use Rattle.guards.specs.memory.Values.{valued, settledBy, settledFirst, atomAt, trueAt, truthsAt, elementAt, eachAt};
@@ -24,30 +27,30 @@ fn small(v: u8) -> u32
 }
 
 // The element that a term's word stands for.
-fn value_of(word: u32, values: [u8; 64]) -> u32
+fn value_of(word: u32, values: [u8; VARIABLE_COUNT]) -> u32
     ensures { λ r. ⌜ (r ≡ valueOf (valued values) (termOf indexName word)) × (r < 256) ⌝ }
 {
     let payload = word / 16;
     if word % 16 == ELEMENT {
         return payload % 256;
     }
-    let x = (payload % 64) as usize;
+    let x = (payload % MOST_VARIABLES) as usize;
     small(values[x])
 }
 
 // The values with one variable bound.
-pub fn with_value(values: [u8; 64], variable: u32, v: u32) -> [u8; 64]
+pub fn with_value(values: [u8; VARIABLE_COUNT], variable: u32, v: u32) -> [u8; VARIABLE_COUNT]
     requires { ⌜ v < 256 ⌝ }
     ensures { λ r. ⌜ r ≡ set values (variable % 64) v ⌝ }
 {
-    let x = (variable % 64) as usize;
+    let x = (variable % MOST_VARIABLES) as usize;
     let mut inner = values;
     inner[x] = v as u8;
     inner
 }
 
 // The number of the row that terms stand for.
-fn row_of(work: &[u32], at: usize, terms: u32, values: [u8; 64]) -> u32
+fn row_of(work: &[u32], at: usize, terms: u32, values: [u8; VARIABLE_COUNT]) -> u32
     requires { ⌜ at ≤ 16384 ⌝ }
     ensures { λ r. ⌜ r ≡ packed (valuesOf (valued values) (termsAt indexName (terms % 4) (drop at (now (work .entry))))) ⌝ }
 {
@@ -72,7 +75,7 @@ fn atom_holds(
     at: usize,
     predicate: u32,
     terms: u32,
-    values: [u8; 64],
+    values: [u8; VARIABLE_COUNT],
     table: Table,
     rows: &[u32],
 ) -> bool
@@ -84,7 +87,7 @@ fn atom_holds(
 }
 
 // Whether two terms stand for the same element.
-fn equal_holds(work: &[u32], at: usize, values: [u8; 64]) -> bool
+fn equal_holds(work: &[u32], at: usize, values: [u8; VARIABLE_COUNT]) -> bool
     requires { ⌜ at ≤ 16384 ⌝ }
     ensures { λ r. ⌜ r ≡ eqb (valueOf (valued values) (termOf indexName (getD (now (work .entry)) at 0))) (valueOf (valued values) (termOf indexName (getD (now (work .entry)) (at + 1) 0))) ⌝ }
 {
@@ -151,11 +154,11 @@ pub fn evaluate(
     work: &[u32],
     at: usize,
     levels: usize,
-    values: [u8; 64],
+    values: [u8; VARIABLE_COUNT],
     table: Table,
     rows: &[u32],
 ) -> bool
-    requires { ⌜ (at ≤ length (now work)) × (length (now work) ≤ 16384) × (table .domain ≤ 64) ⌝ }
+    requires { ⌜ (at ≤ length (now work)) × InWork (now work) × FewElements (table .domain) ⌝ }
     ensures { λ r. ⌜ r ≡ trueAt table (now (rows .entry)) levels values (drop at (now (work .entry))) ⌝ }
 {
     if levels == 0 {
@@ -188,11 +191,11 @@ fn connective_holds(
     levels: usize,
     sign: Sign,
     parts: u32,
-    values: [u8; 64],
+    values: [u8; VARIABLE_COUNT],
     table: Table,
     rows: &[u32],
 ) -> bool
-    requires { ⌜ (at ≤ length (now work)) × (length (now work) ≤ 16384) × (table .domain ≤ 64) ⌝ }
+    requires { ⌜ (at ≤ length (now work)) × InWork (now work) × FewElements (table .domain) ⌝ }
     ensures { λ r. ⌜ r ≡ connect (connectiveOf sign) (truthsAt table (now (rows .entry)) levels values parts (drop at (now (work .entry)))) ⌝ }
 {
     match sign {
@@ -211,11 +214,11 @@ fn pair_holds(
     levels: usize,
     sign: Sign,
     parts: u32,
-    values: [u8; 64],
+    values: [u8; VARIABLE_COUNT],
     table: Table,
     rows: &[u32],
 ) -> bool
-    requires { ⌜ (at ≤ length (now work)) × (length (now work) ≤ 16384) × (table .domain ≤ 64) ⌝ }
+    requires { ⌜ (at ≤ length (now work)) × InWork (now work) × FewElements (table .domain) ⌝ }
     ensures { λ r. ⌜ r ≡ connect (connectiveOf sign) (getD (truthsAt table (now (rows .entry)) levels values parts (drop at (now (work .entry)))) 0 false ∷ getD (truthsAt table (now (rows .entry)) levels values parts (drop at (now (work .entry)))) 1 false ∷ []) ⌝ }
 {
     let first = part_holds(work, at, levels, 0, parts, values, table, rows);
@@ -233,11 +236,11 @@ fn part_holds(
     levels: usize,
     i: u32,
     parts: u32,
-    values: [u8; 64],
+    values: [u8; VARIABLE_COUNT],
     table: Table,
     rows: &[u32],
 ) -> bool
-    requires { ⌜ (at ≤ length (now work)) × (length (now work) ≤ 16384) × (table .domain ≤ 64) ⌝ }
+    requires { ⌜ (at ≤ length (now work)) × InWork (now work) × FewElements (table .domain) ⌝ }
     ensures { λ r. ⌜ r ≡ getD (truthsAt table (now (rows .entry)) levels values parts (drop at (now (work .entry)))) i false ⌝ }
 {
     if i >= parts {
@@ -254,11 +257,11 @@ fn parts_hold(
     levels: usize,
     every: bool,
     parts: u32,
-    values: [u8; 64],
+    values: [u8; VARIABLE_COUNT],
     table: Table,
     rows: &[u32],
 ) -> bool
-    requires { ⌜ (at ≤ length (now work)) × (length (now work) ≤ 16384) × (table .domain ≤ 64) ⌝ }
+    requires { ⌜ (at ≤ length (now work)) × InWork (now work) × FewElements (table .domain) ⌝ }
     ensures { λ r. ⌜ r ≡ joinAll (sideOf every) (truthsAt table (now (rows .entry)) levels values parts (drop at (now (work .entry)))) ⌝ }
 {
     let mut i = at;
@@ -281,11 +284,11 @@ fn each_holds(
     levels: usize,
     every: bool,
     variable: u32,
-    values: [u8; 64],
+    values: [u8; VARIABLE_COUNT],
     table: Table,
     rows: &[u32],
 ) -> bool
-    requires { ⌜ (at ≤ length (now work)) × (length (now work) ≤ 16384) × (table .domain ≤ 64) ⌝ }
+    requires { ⌜ (at ≤ length (now work)) × InWork (now work) × FewElements (table .domain) ⌝ }
     ensures { λ r. ⌜ r ≡ eachAt table (now (rows .entry)) levels values every variable (drop at (now (work .entry))) 1 (table .domain) ⌝ }
 {
     let mut v: u32 = 1;
@@ -308,11 +311,11 @@ fn element_holds(
     at: usize,
     levels: usize,
     every: bool,
-    values: [u8; 64],
+    values: [u8; VARIABLE_COUNT],
     table: Table,
     rows: &[u32],
 ) -> bool
-    requires { ⌜ (at ≤ length (now work)) × (length (now work) ≤ 16384) × (table .domain ≤ 64) ⌝ }
+    requires { ⌜ (at ≤ length (now work)) × InWork (now work) × FewElements (table .domain) ⌝ }
     ensures { λ r. ⌜ r ≡ elementAt table (now (rows .entry)) levels values every (drop at (now (work .entry))) ⌝ }
 {
     if !evaluate(work, at, levels, values, table, rows) {

@@ -1,4 +1,6 @@
 // Whether every variable is bound, but for those of some flags.
+use text::size::MOST_VARIABLES;
+use text::size::VARIABLE_COUNT;
 use words::tag::ELEMENT;
 use words::walk::past;
 use words::word::Kind;
@@ -9,31 +11,32 @@ ghost use mathlib.Core.Bool.{true};
 ghost use Prim.Native.Nat.{_+_, _%_, _≤_};
 ghost use lib.ListN.{length, drop, set};
 ghost use Rattle.logic.specs.Names.{termClosed};
+ghost use Rattle.text.specs.memory.Sizes.{InWork};
 ghost use Rattle.words.specs.memory.Stored.{indexName, termOf};
 ghost use Rattle.guards.specs.memory.Flags.{flagged, termsClosedAt, closedAt, allClosedAt};
 
 // The flags with one variable more.
-pub fn with_flag(flags: [bool; 64], variable: u32) -> [bool; 64]
+pub fn with_flag(flags: [bool; VARIABLE_COUNT], variable: u32) -> [bool; VARIABLE_COUNT]
     ensures { λ r. ⌜ r ≡ set flags (variable % 64) true ⌝ }
 {
-    let x = (variable % 64) as usize;
+    let x = (variable % MOST_VARIABLES) as usize;
     let mut more = flags;
     more[x] = true;
     more
 }
 
-fn term_closed(word: u32, flags: [bool; 64]) -> bool
+fn term_closed(word: u32, flags: [bool; VARIABLE_COUNT]) -> bool
     ensures { λ r. ⌜ r ≡ termClosed (flagged flags) (termOf indexName word) ⌝ }
 {
     if word % 16 == ELEMENT {
         return true;
     }
-    let x = (word / 16 % 64) as usize;
+    let x = (word / 16 % MOST_VARIABLES) as usize;
     flags[x]
 }
 
-fn terms_closed(work: &[u32], at: usize, count: u32, flags: [bool; 64]) -> bool
-    requires { ⌜ (at ≤ length (now work)) × (count ≤ 4) × (length (now work) ≤ 16384) ⌝ }
+fn terms_closed(work: &[u32], at: usize, count: u32, flags: [bool; VARIABLE_COUNT]) -> bool
+    requires { ⌜ (at ≤ length (now work)) × (count ≤ 4) × InWork (now work) ⌝ }
     ensures { λ r. ⌜ r ≡ termsClosedAt flags count (drop at (now (work .entry))) ⌝ }
 {
     let mut i = at;
@@ -49,8 +52,8 @@ fn terms_closed(work: &[u32], at: usize, count: u32, flags: [bool; 64]) -> bool
 }
 
 // Whether each variable of the formula at a place is flagged or bound on the way to it.
-pub fn closed_at(work: &[u32], at: usize, levels: usize, flags: [bool; 64]) -> bool
-    requires { ⌜ (at ≤ length (now work)) × (length (now work) ≤ 16384) ⌝ }
+pub fn closed_at(work: &[u32], at: usize, levels: usize, flags: [bool; VARIABLE_COUNT]) -> bool
+    requires { ⌜ (at ≤ length (now work)) × InWork (now work) ⌝ }
     ensures { λ r. ⌜ r ≡ closedAt levels flags (drop at (now (work .entry))) ⌝ }
 {
     if levels == 0 {
@@ -74,8 +77,14 @@ pub fn closed_at(work: &[u32], at: usize, levels: usize, flags: [bool; 64]) -> b
     }
 }
 
-fn parts_closed(work: &[u32], at: usize, levels: usize, count: u32, flags: [bool; 64]) -> bool
-    requires { ⌜ (at ≤ length (now work)) × (length (now work) ≤ 16384) ⌝ }
+fn parts_closed(
+    work: &[u32],
+    at: usize,
+    levels: usize,
+    count: u32,
+    flags: [bool; VARIABLE_COUNT],
+) -> bool
+    requires { ⌜ (at ≤ length (now work)) × InWork (now work) ⌝ }
     ensures { λ r. ⌜ r ≡ allClosedAt levels flags count (drop at (now (work .entry))) ⌝ }
 {
     let mut i = at;

@@ -10,6 +10,7 @@ ghost use lib.ListN.{length, take, drop};
 ghost use Rattle.grammar.specs.Bytes.{same};
 ghost use Rattle.logic.specs.Meaning.{countFrom};
 ghost use Rattle.text.specs.memory.Numbers.{numbersAt};
+ghost use Rattle.text.specs.memory.Sizes.{ShortText, NearNumbers};
 ghost use Rattle.words.specs.memory.Storing.{Stores, spliced, Rewritten, Roomy, Fronted};
 ghost use Rattle.names.specs.memory.Names.{indexIn, ToldClimb};
 
@@ -36,7 +37,7 @@ pub fn index_of(work: &[u32], from: usize, count: usize, name: u32) -> usize
 
 // Whether each of some names of a text is greater than every name before it, from the greatest used on.
 pub fn climbs(text: &[u8], at: usize, many: usize, top: u32) -> Climb
-    requires { ⌜ (length (now text) ≤ 65536) × (at + many ≤ 200000) ⌝ }
+    requires { ⌜ ShortText (now text) × NearNumbers at many ⌝ }
     ensures { λ r. ⌜ ToldClimb top (numbersAt (now (text .entry)) at many) r ⌝ }
 {
     let mut place = at;
@@ -64,7 +65,7 @@ pub fn are_listed(
     from: usize,
     count: usize,
 ) -> bool
-    requires { ⌜ (length (now text) ≤ 65536) × (at + many ≤ 200000) × (from + count ≤ length (now work)) ⌝ }
+    requires { ⌜ ShortText (now text) × NearNumbers at many × (from + count ≤ length (now work)) ⌝ }
     ensures { λ r. ⌜ r ≡ same (numbersAt (now (text .entry)) at many) (take count (drop from (now (work .entry)))) ⌝ }
 {
     if many != count {
@@ -85,7 +86,7 @@ pub fn are_listed(
 
 // Numbers of a text are stored one after the other, where there is room; the place behind them.
 fn put_numbers(list: &mut [u32], to: usize, text: &[u8], at: usize, many: usize) -> usize
-    requires { ⌜ (length (now text) ≤ 65536) × (at + many ≤ 200000) × (to ≤ 16384) ⌝ }
+    requires { ⌜ ShortText (now text) × NearNumbers at many × (to ≤ 16384) ⌝ }
     ensures { λ r. ⌜ Stores (now (list .entry)) to (numbersAt (now (text .entry)) at many) r (now (list .exit)) ⌝ }
 {
     let mut place = at;
@@ -110,7 +111,7 @@ fn names_behind(
     at: usize,
     many: usize,
 ) -> usize
-    requires { ⌜ Roomy (now list) index count spare × (length (now text) ≤ 65536) × (at + many ≤ 200000) ⌝ }
+    requires { ⌜ Roomy (now list) index count spare × ShortText (now text) × NearNumbers at many ⌝ }
     ensures { λ r. ⌜ Rewritten (now (list .entry)) index (index + 1) count spare (numbersAt (now (text .entry)) at many) r (now (list .exit)) ⌝ }
 {
     let here = copy(list, 0, index, spare);
@@ -128,7 +129,7 @@ pub fn with_names(
     at: usize,
     many: usize,
 ) -> usize
-    requires { ⌜ Roomy (now list) index count spare × (length (now text) ≤ 65536) × (at + many ≤ 200000) × (count + many ≤ spare + 1) ⌝ }
+    requires { ⌜ Roomy (now list) index count spare × ShortText (now text) × NearNumbers at many × (count + many ≤ spare + 1) ⌝ }
     ensures { λ r. ⌜ Fronted (spliced (now (list .entry)) index (index + 1) count (numbersAt (now (text .entry)) at many)) spare r (now (list .exit)) × (r ≤ spare) ⌝ }
 {
     let total = names_behind(list, index, count, spare, text, at, many);

@@ -17,6 +17,7 @@ ghost use lib.ListN.{length, getD, drop};
 ghost use Rattle.grammar.specs.Bytes.{joined};
 ghost use Rattle.grammar.specs.Numbers.{decimal};
 ghost use Rattle.logic.specs.Text.{truthText};
+ghost use Rattle.text.specs.memory.Sizes.{InWork};
 ghost use Rattle.table.specs.memory.Table.{tableName};
 ghost use Rattle.printing.specs.memory.Cursor.{Prints};
 ghost use Rattle.printing.specs.memory.ClauseText.{elementOf, elementTexts, atomText, signOpening, signClosing, opening, closing, partTexts, clauseText, clauseLines};
@@ -57,7 +58,7 @@ fn emit_elements(
     store: bool,
     out: &mut [u8],
 ) -> Cursor
-    requires { ⌜ (at ≤ length (now work)) × (count < 4) × (length (now work) ≤ 16384) ⌝ }
+    requires { ⌜ (at ≤ length (now work)) × (count < 4) × InWork (now work) ⌝ }
     ensures { λ r. ⌜ Prints (now (claim .entry)) store (cursor, now (out .entry)) (joined 44 (elementTexts count (drop at (now (work .entry))))) (r, now (out .exit)) ⌝ }
 {
     if count == 0 {
@@ -106,7 +107,7 @@ fn emit_atom(
     store: bool,
     out: &mut [u8],
 ) -> Cursor
-    requires { ⌜ (at ≤ length (now work)) × (count < 4) × (length (now work) ≤ 16384) ⌝ }
+    requires { ⌜ (at ≤ length (now work)) × (count < 4) × InWork (now work) ⌝ }
     ensures { λ r. ⌜ Prints (now (claim .entry)) store (cursor, now (out .entry)) (atomText (now (problem .entry)) table predicate count (drop at (now (work .entry)))) (r, now (out .exit)) ⌝ }
 {
     let named = emit_name(problem, table, predicate, cursor, claim, store, out);
@@ -164,7 +165,7 @@ fn emit_opening(
     store: bool,
     out: &mut [u8],
 ) -> Cursor
-    requires { ⌜ (at ≤ length (now work)) × (length (now work) ≤ 16384) ⌝ }
+    requires { ⌜ (at ≤ length (now work)) × InWork (now work) ⌝ }
     ensures { λ r. ⌜ Prints (now (claim .entry)) store (cursor, now (out .entry)) (opening (now (problem .entry)) table kind (drop at (now (work .entry)))) (r, now (out .exit)) ⌝ }
 {
     match kind {
@@ -223,7 +224,7 @@ fn emit_clause(
     store: bool,
     out: &mut [u8],
 ) -> Cursor
-    requires { ⌜ (at ≤ length (now work)) × (length (now work) ≤ 16384) ⌝ }
+    requires { ⌜ (at ≤ length (now work)) × InWork (now work) ⌝ }
     ensures { λ r. ⌜ Prints (now (claim .entry)) store (cursor, now (out .entry)) (clauseText (now (problem .entry)) table levels (drop at (now (work .entry)))) (r, now (out .exit)) ⌝ }
 {
     if levels == 0 {
@@ -263,7 +264,7 @@ fn emit_parts(
     store: bool,
     out: &mut [u8],
 ) -> Cursor
-    requires { ⌜ (at ≤ length (now work)) × (length (now work) ≤ 16384) ⌝ }
+    requires { ⌜ (at ≤ length (now work)) × InWork (now work) ⌝ }
     ensures { λ r. ⌜ Prints (now (claim .entry)) store (cursor, now (out .entry)) (joined 44 (partTexts (clauseText (now (problem .entry)) table levels) count (drop at (now (work .entry))))) (r, now (out .exit)) ⌝ }
 {
     if count == 0 {
@@ -294,7 +295,7 @@ pub fn emit_lines(
     store: bool,
     out: &mut [u8],
 ) -> Cursor
-    requires { ⌜ (at ≤ length (now work)) × (length (now work) ≤ 16384) ⌝ }
+    requires { ⌜ (at ≤ length (now work)) × InWork (now work) ⌝ }
     ensures { λ r. ⌜ Prints (now (claim .entry)) store (cursor, now (out .entry)) (clauseLines (now (problem .entry)) table levels count (drop at (now (work .entry)))) (r, now (out .exit)) ⌝ }
 {
     let mut last = cursor;

@@ -11,12 +11,18 @@ use table::table::find;
 use table::table::with_rows;
 use text::byte::begins_at;
 use text::number::Number;
+use text::size::GREATEST_ARITY;
+use text::size::GREATEST_ELEMENT;
+use text::size::LAST_PREDICATE;
+use text::size::NAME_SIZE;
+use text::size::PREDICATE_COUNT;
 ghost use mathlib.Core.Path.{_≡_};
 ghost use mathlib.Core.Bool.{cond};
 ghost use lib.Dec.{eqb};
 ghost use Prim.Native.Nat.{_+_, _≤_, _<_};
 ghost use lib.ListN.{length};
 ghost use Rattle.grammar.specs.Problem.{start, declaring, readInput, readOutput, problemLine};
+ghost use Rattle.text.specs.memory.Sizes.{ShortText, FewPredicates};
 ghost use Rattle.table.specs.memory.Table.{problemIn, Columns};
 ghost use Rattle.problem.specs.memory.Declarations.{predicateAt};
 ghost use Rattle.problem.specs.memory.ProblemLines.{predicateFitsIn, DeclaredTold, Standing, ToldProblemLine, LineTold, failedLine};
@@ -64,13 +70,13 @@ fn fits(text: &[u8], table: Table, start: usize, size: usize, arity: u32) -> boo
     requires { ⌜ start + size ≤ length (now text) ⌝ }
     ensures { λ r. ⌜ r ≡ predicateFitsIn (now (text .entry)) table (predicateAt (now (text .entry)) start size arity) ⌝ }
 {
-    if arity > 3 {
+    if arity > GREATEST_ARITY {
         return false;
     }
-    if size > 15 {
+    if size > NAME_SIZE {
         return false;
     }
-    if table.count > 31 {
+    if table.count > LAST_PREDICATE {
         return false;
     }
     find(text, table, text, start, size) == table.count
@@ -78,7 +84,7 @@ fn fits(text: &[u8], table: Table, start: usize, size: usize, arity: u32) -> boo
 
 // What follows `input=` or `output=`, entered behind the table's predicates if it may join them.
 fn declared(text: &[u8], at: usize, table: Table) -> DeclaredRead
-    requires { ⌜ (at ≤ length (now text)) × (length (now text) ≤ 65536) ⌝ }
+    requires { ⌜ (at ≤ length (now text)) × ShortText (now text) ⌝ }
     ensures { λ r. ⌜ DeclaredTold (now (text .entry)) at table r ⌝ }
 {
     match declaration_at(text, at) {
@@ -131,7 +137,7 @@ fn domain_line(text: &[u8], at: usize, progress: Progress) -> ProblemLineRead
             if value < 1 {
                 return failed(4, at, progress);
             }
-            if value > 64 {
+            if value > GREATEST_ELEMENT {
                 return failed(4, at, progress);
             }
             let mut table = progress.table;
@@ -154,7 +160,7 @@ fn domain_line(text: &[u8], at: usize, progress: Progress) -> ProblemLineRead
 
 // What follows `input=`.
 fn input_line(text: &[u8], at: usize, progress: Progress) -> ProblemLineRead
-    requires { ⌜ (at ≤ length (now text)) × (length (now text) ≤ 65536) × (progress .stage ≡ Stage.Declaring) ⌝ }
+    requires { ⌜ (at ≤ length (now text)) × ShortText (now text) × (progress .stage ≡ Stage.Declaring) ⌝ }
     ensures { λ r. ⌜ LineTold (λ rows. readInput (problemIn (now (text .entry)) (progress .table) rows)) (now (text .entry)) at progress r ⌝ }
 {
     let table = progress.table;
@@ -177,7 +183,7 @@ fn input_line(text: &[u8], at: usize, progress: Progress) -> ProblemLineRead
 
 // A line `output=`.
 fn output_line(text: &[u8], at: usize, progress: Progress) -> ProblemLineRead
-    requires { ⌜ (at ≤ length (now text)) × (length (now text) ≤ 65536) × (progress .table .count ≤ 32) ⌝ }
+    requires { ⌜ (at ≤ length (now text)) × ShortText (now text) × FewPredicates (progress .table .count) ⌝ }
     ensures { λ r. ⌜ LineTold (λ rows. readOutput (problemIn (now (text .entry)) (progress .table) rows)) (now (text .entry)) at progress r ⌝ }
 {
     if !begins_at(text, at, b"output=") {
@@ -204,7 +210,7 @@ fn output_line(text: &[u8], at: usize, progress: Progress) -> ProblemLineRead
 
 // A line where inputs or outputs may follow.
 fn declaring_line(text: &[u8], at: usize, progress: Progress) -> ProblemLineRead
-    requires { ⌜ (at ≤ length (now text)) × (length (now text) ≤ 65536) × (progress .table .count ≤ 32) × (progress .stage ≡ Stage.Declaring) ⌝ }
+    requires { ⌜ (at ≤ length (now text)) × ShortText (now text) × FewPredicates (progress .table .count) × (progress .stage ≡ Stage.Declaring) ⌝ }
     ensures { λ r. ⌜ LineTold (λ rows. problemLine (declaring (problemIn (now (text .entry)) (progress .table) rows))) (now (text .entry)) at progress r ⌝ }
 {
     if begins_at(text, at, b"input=") {
@@ -258,7 +264,7 @@ fn rows_line(text: &[u8], at: usize, progress: Progress, rows: &mut [u32]) -> Pr
 
 // A line, as the part asks that is read so far.
 fn problem_line_at(text: &[u8], at: usize, progress: Progress, rows: &mut [u32]) -> ProblemLineRead
-    requires { ⌜ (at ≤ length (now text)) × (length (now text) ≤ 65536) × Standing (now text) progress (now rows) × (1056 ≤ length (now rows)) ⌝ }
+    requires { ⌜ (at ≤ length (now text)) × ShortText (now text) × Standing (now text) progress (now rows) × (1056 ≤ length (now rows)) ⌝ }
     ensures { λ r. ⌜ ToldProblemLine (now (text .entry)) at progress (now (rows .entry)) (now (rows .exit)) r ⌝ }
 {
     let stage = progress.stage;
@@ -292,11 +298,11 @@ fn beginning() -> Progress
             domain: 0,
             inputs: 0,
             count: 0,
-            start: [0; 32],
-            size: [0; 32],
-            arity: [0; 32],
-            first: [0; 32],
-            rows: [0; 32],
+            start: [0; PREDICATE_COUNT],
+            size: [0; PREDICATE_COUNT],
+            arity: [0; PREDICATE_COUNT],
+            first: [0; PREDICATE_COUNT],
+            rows: [0; PREDICATE_COUNT],
         },
         used: 0,
         total: 0,
@@ -305,7 +311,7 @@ fn beginning() -> Progress
 
 // The problem that a text is, as a table and rows; or the number and the line that the text is refused with.
 pub fn read_problem(text: &[u8], rows: &mut [u32]) -> ProblemRead
-    requires { ⌜ (length (now text) ≤ 65536) × (1056 ≤ length (now rows)) ⌝ }
+    requires { ⌜ ShortText (now text) × (1056 ≤ length (now rows)) ⌝ }
     ensures { λ r. ⌜ ProblemTold (now (text .entry)) (now (rows .exit)) r ⌝ }
 {
     let mut progress = beginning();

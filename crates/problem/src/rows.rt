@@ -4,9 +4,11 @@ use text::byte::peek;
 use text::cell::set_number;
 use text::number::Number;
 use text::number::number_at;
+use text::size::TUPLE_COUNT;
 ghost use mathlib.Core.Path.{_≡_};
 ghost use Prim.Native.Nat.{_+_, _≤_, _<_};
 ghost use lib.ListN.{length};
+ghost use Rattle.text.specs.memory.Sizes.{FewElements, FewTerms};
 ghost use Rattle.table.specs.memory.Table.{placed};
 ghost use Rattle.problem.specs.memory.Rows.{RowBounded, RowMore, ToldElement, ToldTuple, RowsBounded, RowsMore, ToldTuples};
 ghost use Rattle.problem.specs.memory.Rows.{ToldTruth, ToldListed, ToldRelation, RowsGiven, ToldRowsRead};
@@ -62,7 +64,7 @@ fn placed_at(place: u32, v: u32) -> u32
 
 // A row with one element more.
 fn extended(row: RowKept, domain: u32, v: u32) -> RowKept
-    requires { ⌜ (domain ≤ 64) × RowBounded row ⌝ }
+    requires { ⌜ FewElements domain × RowBounded row ⌝ }
     ensures { λ r. ⌜ RowMore domain v row r ⌝ }
 {
     match row {
@@ -88,7 +90,7 @@ fn extended(row: RowKept, domain: u32, v: u32) -> RowKept
 
 // One element more is read.
 fn element_at(text: &[u8], at: usize, domain: u32, row: RowKept) -> TupleRead
-    requires { ⌜ (at ≤ length (now text)) × (domain ≤ 64) × RowBounded row ⌝ }
+    requires { ⌜ (at ≤ length (now text)) × FewElements domain × RowBounded row ⌝ }
     ensures { λ r. ⌜ ToldElement domain row (now (text .entry)) at r ⌝ }
 {
     match number_at(text, at) {
@@ -108,7 +110,7 @@ fn element_at(text: &[u8], at: usize, domain: u32, row: RowKept) -> TupleRead
 
 // A tuple, of any length.
 fn tuple_at(text: &[u8], at: usize, domain: u32) -> TupleRead
-    requires { ⌜ (at ≤ length (now text)) × (domain ≤ 64) ⌝ }
+    requires { ⌜ (at ≤ length (now text)) × FewElements domain ⌝ }
     ensures { λ r. ⌜ ToldTuple domain (now (text .entry)) at r ⌝ }
 {
     let mut row = RowKept::Fitting {
@@ -142,7 +144,7 @@ fn kept(
     rows: &mut [u32],
     to: usize,
 ) -> RowsKept
-    requires { ⌜ RowsBounded before × (arity ≤ 3) × (total ≤ 1024) × (to ≤ 2048) ⌝ }
+    requires { ⌜ RowsBounded before × FewTerms arity × (total ≤ 1024) × (to ≤ 2048) ⌝ }
     ensures { λ r. ⌜ RowsMore total arity to row before r (now (rows .entry)) (now (rows .exit)) ⌝ }
 {
     match before {
@@ -156,7 +158,7 @@ fn kept(
                 if rank <= last {
                     return RowsKept::Unfit;
                 }
-                if total + count >= 1024 {
+                if total + count >= TUPLE_COUNT {
                     return RowsKept::Unfit;
                 }
                 set_number(rows, to + count as usize, key);
@@ -179,7 +181,7 @@ fn tuples_at(
     rows: &mut [u32],
     to: usize,
 ) -> TuplesRead
-    requires { ⌜ (at ≤ length (now text)) × (arity ≤ 3) × (domain ≤ 64) × (total ≤ 1024) × (to ≤ 2048) ⌝ }
+    requires { ⌜ (at ≤ length (now text)) × FewTerms arity × FewElements domain × (total ≤ 1024) × (to ≤ 2048) ⌝ }
     ensures { λ r. ⌜ ToldTuples domain total arity to (now (rows .entry)) (now (rows .exit)) (now (text .entry)) at r ⌝ }
 {
     let mut before = RowsKept::Fitting { count: 0, last: 0 };
@@ -224,7 +226,7 @@ fn listed_at(
     rows: &mut [u32],
     to: usize,
 ) -> RelationRead
-    requires { ⌜ (at ≤ length (now text)) × (arity ≤ 3) × (domain ≤ 64) × (total ≤ 1024) × (to ≤ 2048) ⌝ }
+    requires { ⌜ (at ≤ length (now text)) × FewTerms arity × FewElements domain × (total ≤ 1024) × (to ≤ 2048) ⌝ }
     ensures { λ r. ⌜ ToldListed domain total arity to (now (rows .entry)) (now (rows .exit)) (now (text .entry)) at r ⌝ }
 {
     if peek(text, at) == b'\n' {
@@ -257,7 +259,7 @@ fn relation_at(
     rows: &mut [u32],
     to: usize,
 ) -> RelationRead
-    requires { ⌜ (at ≤ length (now text)) × (arity ≤ 3) × (domain ≤ 64) × (total ≤ 1024) × (to ≤ 2048) ⌝ }
+    requires { ⌜ (at ≤ length (now text)) × FewTerms arity × FewElements domain × (total ≤ 1024) × (to ≤ 2048) ⌝ }
     ensures { λ r. ⌜ ToldRelation domain total arity to (now (rows .entry)) (now (rows .exit)) (now (text .entry)) at r ⌝ }
 {
     if !begins_at(text, at, b"rows=") {
@@ -311,7 +313,7 @@ pub fn rows_at(
     rows: &mut [u32],
     to: usize,
 ) -> RowsRead
-    requires { ⌜ (at ≤ length (now text)) × (arity ≤ 3) × (domain ≤ 64) × (total ≤ 1024) × (to ≤ 2048) ⌝ }
+    requires { ⌜ (at ≤ length (now text)) × FewTerms arity × FewElements domain × (total ≤ 1024) × (to ≤ 2048) ⌝ }
     ensures { λ r. ⌜ ToldRowsRead domain total arity to (now (rows .entry)) (now (rows .exit)) (now (text .entry)) at r ⌝ }
 {
     let relation = relation_at(text, at, arity, domain, total, rows, to);

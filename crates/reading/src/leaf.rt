@@ -26,6 +26,7 @@ ghost use Prim.Native.Nat.{ℕ, _+_, _≤_, _<_};
 ghost use lib.ListN.{length, take, drop};
 ghost use Rattle.grammar.specs.Problem.{Name, Problem, predicates, declared, isInput};
 ghost use Rattle.logic.specs.Reading.{readEquality, readAtom};
+ghost use Rattle.text.specs.memory.Sizes.{ShortText, FewElements, FewPredicates};
 ghost use Rattle.terms.specs.memory.Signature.{signatureOf};
 ghost use Rattle.terms.specs.memory.Bindings.{boundIn};
 ghost use Rattle.terms.specs.memory.Facts.{simpleFacts};
@@ -42,7 +43,7 @@ fn read_equality(
     work: &mut [u32],
     to: usize,
 ) -> Read
-    requires { ⌜ (at ≤ length (now text)) × (length (now text) ≤ 65536) × (domain ≤ 64) × (to < at + 1000000) ⌝ }
+    requires { ⌜ (at ≤ length (now text)) × ShortText (now text) × FewElements domain × (to < at + 1000000) ⌝ }
     ensures { λ r. ⌜ ((P : Problem) (index : Name → ℕ) → P .domain ≡ domain → Told readEquality (setting (now (text .entry)) (boundIn (now (text .entry)) scope) P index) at (memory (now (names .entry)) (now (work .entry))) to r (memory (now (names .exit)) (now (work .exit)))) ⌝ }
 {
     match closed_terms(text, at, 1, scope, domain, names, work, to + 1) {
@@ -87,7 +88,7 @@ fn read_atom(
     work: &mut [u32],
     to: usize,
 ) -> Read
-    requires { ⌜ (at ≤ length (now text)) × (length (now text) ≤ 65536) × (to ≤ at + 1000000) × (table .domain ≤ 64) × (table .count ≤ 32) ⌝ }
+    requires { ⌜ (at ≤ length (now text)) × ShortText (now text) × (to ≤ at + 1000000) × FewElements (table .domain) × FewPredicates (table .count) ⌝ }
     ensures { λ r. ⌜ Told readAtom (settingOf (now (text .entry)) scope (now (problem .entry)) table) at (memory (now (names .entry)) (now (work .entry))) to r (memory (now (names .exit)) (now (work .exit))) ⌝ }
 {
     match predicate_end(text, at) {
@@ -127,7 +128,7 @@ pub fn read_leaf(
     work: &mut [u32],
     to: usize,
 ) -> Read
-    requires { ⌜ (at ≤ length (now text)) × (length (now text) ≤ 65536) × (to ≤ at + 1000000) × (table .domain ≤ 64) × (table .count ≤ 32) ⌝ }
+    requires { ⌜ (at ≤ length (now text)) × ShortText (now text) × (to ≤ at + 1000000) × FewElements (table .domain) × FewPredicates (table .count) ⌝ }
     ensures { λ r. ⌜ Told readLeaf (settingOf (now (text .entry)) scope (now (problem .entry)) table) at (memory (now (names .entry)) (now (work .entry))) to r (memory (now (names .exit)) (now (work .exit))) ⌝ }
 {
     if begins_at(text, at, b"true") {

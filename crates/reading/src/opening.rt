@@ -4,6 +4,7 @@ use words::word::Sign;
 ghost use mathlib.Core.Path.{_≡_};
 ghost use Prim.Native.Nat.{_≤_};
 ghost use lib.ListN.{length, drop};
+ghost use Rattle.text.specs.memory.Sizes.{ShortText};
 ghost use Rattle.reading.specs.memory.Openings.{bracketOpening, openingOf};
 
 // A formula without formulas in it; or a connective or a quantifier, and where what follows its sign begins.
@@ -15,7 +16,7 @@ pub enum Opening {
 
 // A connective with a bracket, at a place.
 fn bracket_opening(text: &[u8], at: usize) -> Opening
-    requires { ⌜ (at ≤ length (now text)) × (length (now text) ≤ 65536) ⌝ }
+    requires { ⌜ (at ≤ length (now text)) × ShortText (now text) ⌝ }
     ensures { λ r. ⌜ r ≡ bracketOpening at (drop at (now (text .entry))) ⌝ }
 {
     if begins_at(text, at, b"&(") {
@@ -53,7 +54,7 @@ fn bracket_opening(text: &[u8], at: usize) -> Opening
 
 // How the formula at a place opens.
 pub fn opening_at(text: &[u8], at: usize) -> Opening
-    requires { ⌜ (at ≤ length (now text)) × (length (now text) ≤ 65536) ⌝ }
+    requires { ⌜ (at ≤ length (now text)) × ShortText (now text) ⌝ }
     ensures { λ r. ⌜ r ≡ openingOf at (drop at (now (text .entry))) ⌝ }
 {
     if begins_at(text, at, b"~") {

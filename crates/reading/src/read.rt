@@ -29,6 +29,7 @@ ghost use mathlib.Core.Path.{_≡_};
 ghost use Prim.Native.Nat.{_+_, _≤_, _<_};
 ghost use lib.ListN.{length};
 ghost use Rattle.logic.specs.Reading.{readQuantifier, readFormula};
+ghost use Rattle.text.specs.memory.Sizes.{ShortText, FewElements, FewPredicates};
 ghost use Rattle.words.specs.memory.Stored.{sideOf, connectiveOf};
 ghost use Rattle.terms.specs.memory.Lists.{upTo};
 ghost use Rattle.terms.specs.memory.Entries.{settingOf, memory};
@@ -100,7 +101,7 @@ pub fn read_formula(
     work: &mut [u32],
     to: usize,
 ) -> Read
-    requires { ⌜ (at ≤ length (now text)) × (length (now text) ≤ 65536) × (to ≤ at + 1000000) × (table .domain ≤ 64) × (table .count ≤ 32) × (scope .count + levels ≤ 32) ⌝ }
+    requires { ⌜ (at ≤ length (now text)) × ShortText (now text) × (to ≤ at + 1000000) × FewElements (table .domain) × FewPredicates (table .count) × (scope .count + levels ≤ 32) ⌝ }
     ensures { λ r. ⌜ Told (readFormula levels) (settingOf (now (text .entry)) scope (now (problem .entry)) table) at (memory (now (names .entry)) (now (work .entry))) to r (memory (now (names .exit)) (now (work .exit))) ⌝ }
 {
     if levels == 0 {
@@ -153,7 +154,7 @@ fn read_connective(
     work: &mut [u32],
     to: usize,
 ) -> Read
-    requires { ⌜ (at ≤ length (now text)) × (length (now text) ≤ 65536) × (to < at + 1000000) × (table .domain ≤ 64) × (table .count ≤ 32) × (scope .count + levels ≤ 32) ⌝ }
+    requires { ⌜ (at ≤ length (now text)) × ShortText (now text) × (to < at + 1000000) × FewElements (table .domain) × FewPredicates (table .count) × (scope .count + levels ≤ 32) ⌝ }
     ensures { λ r. ⌜ ToldBehind (readConnective (readFormula levels) (connectiveOf sign)) (settingOf (now (text .entry)) scope (now (problem .entry)) table) at (memory (now (names .entry)) (now (work .entry))) to r (memory (now (names .exit)) (now (work .exit))) ⌝ }
 {
     if none_follow(text, at, sign) {
@@ -204,7 +205,7 @@ fn read_parts(
     work: &mut [u32],
     to: usize,
 ) -> PartsRead
-    requires { ⌜ (at ≤ length (now text)) × (length (now text) ≤ 65536) × (to ≤ at + 1000000) × (table .domain ≤ 64) × (table .count ≤ 32) × (scope .count + levels ≤ 32) ⌝ }
+    requires { ⌜ (at ≤ length (now text)) × ShortText (now text) × (to ≤ at + 1000000) × FewElements (table .domain) × FewPredicates (table .count) × (scope .count + levels ≤ 32) ⌝ }
     ensures { λ r. ⌜ ToldParts (upTo most (readFormula levels)) (settingOf (now (text .entry)) scope (now (problem .entry)) table) at (memory (now (names .entry)) (now (work .entry))) to r (memory (now (names .exit)) (now (work .exit))) ⌝ }
 {
     let mut i = at;
@@ -261,7 +262,7 @@ fn read_quantifier(
     work: &mut [u32],
     to: usize,
 ) -> Read
-    requires { ⌜ (at ≤ length (now text)) × (length (now text) ≤ 65536) × (to < at + 1000000) × (table .domain ≤ 64) × (table .count ≤ 32) × (scope .count + levels < 32) ⌝ }
+    requires { ⌜ (at ≤ length (now text)) × ShortText (now text) × (to < at + 1000000) × FewElements (table .domain) × FewPredicates (table .count) × (scope .count + levels < 32) ⌝ }
     ensures { λ r. ⌜ ToldBehind (readQuantifier (readFormula levels) (sideOf every)) (settingOf (now (text .entry)) scope (now (problem .entry)) table) at (memory (now (names .entry)) (now (work .entry))) to r (memory (now (names .exit)) (now (work .exit))) ⌝ }
 {
     match variable_end(text, at) {
@@ -311,7 +312,7 @@ fn read_guarded(
     work: &mut [u32],
     to: usize,
 ) -> GuardedRead
-    requires { ⌜ (at ≤ length (now text)) × (length (now text) ≤ 65536) × (to ≤ at + 1000000) × (table .domain ≤ 64) × (table .count ≤ 32) × (scope .count + levels ≤ 32) ⌝ }
+    requires { ⌜ (at ≤ length (now text)) × ShortText (now text) × (to ≤ at + 1000000) × FewElements (table .domain) × FewPredicates (table .count) × (scope .count + levels ≤ 32) ⌝ }
     ensures { λ r. ⌜ ToldGuarded (readGuarded (readFormula levels)) (settingOf (now (text .entry)) scope (now (problem .entry)) table) at (memory (now (names .entry)) (now (work .entry))) to r (memory (now (names .exit)) (now (work .exit))) ⌝ }
 {
     match read_formula(text, at, levels, scope, problem, table, names, work, to) {

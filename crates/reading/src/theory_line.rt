@@ -5,9 +5,11 @@ use crate::read::read_formula;
 use table::table::Table;
 use terms::binding::no_scope;
 use text::byte::peek;
+use text::size::MOST_LEVELS;
 ghost use mathlib.Core.List.{List};
 ghost use Prim.Native.Nat.{ℕ, _+_, _≤_};
 ghost use lib.ListN.{length};
+ghost use Rattle.text.specs.memory.Sizes.{ShortText, FewElements, FewPredicates};
 ghost use Rattle.table.specs.memory.Table.{problemIn};
 ghost use Rattle.terms.specs.memory.Entries.{predicateIndex, memory};
 ghost use Rattle.reading.specs.memory.TheoryLines.{ToldTheoryLine};
@@ -32,10 +34,20 @@ pub fn read_theory_line(
     work: &mut [u32],
     to: usize,
 ) -> TheoryLineRead
-    requires { ⌜ (at ≤ length (now text)) × (length (now text) ≤ 65536) × (to ≤ at + 1000000) × (table .domain ≤ 64) × (table .count ≤ 32) ⌝ }
+    requires { ⌜ (at ≤ length (now text)) × ShortText (now text) × (to ≤ at + 1000000) × FewElements (table .domain) × FewPredicates (table .count) ⌝ }
     ensures { λ r. ⌜ ((rows : List ℕ) → ToldTheoryLine (problemIn (now (problem .entry)) table rows) (now (text .entry)) (predicateIndex (now (problem .entry)) table) at (memory (now (names .entry)) (now (work .entry))) to r (memory (now (names .exit)) (now (work .exit)))) ⌝ }
 {
-    match read_formula(text, at, 32, no_scope(), problem, table, names, work, to) {
+    match read_formula(
+        text,
+        at,
+        MOST_LEVELS,
+        no_scope(),
+        problem,
+        table,
+        names,
+        work,
+        to,
+    ) {
         Read::Done { next, size, facts } => {
             if peek(text, next) != b'\n' {
                 return TheoryLineRead::Refused(5);

@@ -7,23 +7,29 @@ use printing::cursor::start;
 use printing::print::emit_lines;
 use steps::live::Layout;
 use table::table::Table;
+use text::size::FORMULA_COUNT;
 use text::size::LEVEL_COUNT;
+use text::size::TEXT_SIZE;
+use text::size::THEORY_SIZE;
+use text::size::WORK_SIZE;
 ghost use mathlib.Core.Path.{_≡_};
 ghost use mathlib.Core.Bool.{true, cond, _&&_};
-ghost use Prim.Native.Nat.{ℕ, _≤_};
+ghost use Prim.Native.Nat.{ℕ};
 ghost use lib.Dec.{eqb, leb};
 ghost use lib.ListN.{length};
 ghost use Rattle.demands.specs.Answer.{resultOf, replayResult, checkResult};
 ghost use Rattle.demands.specs.Promise.{Promise};
 ghost use Rattle.demands.specs.memory.Conclusions.{judgedOf, shortOf, answeredOf};
+ghost use Rattle.text.specs.memory.Sizes.{ShortText, InWork};
 ghost use Rattle.printing.specs.memory.Cursor.{firstCursor, Prints};
 ghost use Rattle.printing.specs.memory.ClauseText.{clauseLines};
 ghost use Rattle.steps.specs.memory.Steps.{Arranged};
 ghost use Rattle.replay.specs.memory.Answers.{Told, Concluded};
 
-const WORK_SIZE: usize = 16384;
+// The rows stand behind the theory and the next one; the names behind 1,024 rows and a truth value for each of 32 predicates.
+const ROWS: usize = 8192;
 
-const TEXT_SIZE: usize = 65536;
+const NAMES: usize = 9248;
 
 fn refused(number: u32, file: u32, line: u32) -> Answer
     ensures { λ r. ⌜ r ≡ record { number = number; file = file; line = line; rules = 0; formulas = 0 } ⌝ }
@@ -53,10 +59,10 @@ fn layout() -> Layout
     ensures { λ r. ⌜ ((size : ℕ) → size ≡ 16384 → Arranged r size) ⌝ }
 {
     Layout {
-        next: 4096,
-        rows: 8192,
-        names: 9248,
-        spare: 1024,
+        next: THEORY_SIZE,
+        rows: ROWS,
+        names: NAMES,
+        spare: FORMULA_COUNT,
     }
 }
 
@@ -70,7 +76,7 @@ fn printed(
     store: bool,
     output: &mut [u8],
 ) -> Cursor
-    requires { ⌜ length (now words) ≤ 16384 ⌝ }
+    requires { ⌜ InWork (now words) ⌝ }
     ensures { λ r. ⌜ Prints (now (claim .entry)) store (firstCursor, now (output .entry)) (clauseLines (now (problem .entry)) table 32 count (now (words .entry))) (r, now (output .exit)) ⌝ }
 {
     emit_lines(
@@ -111,7 +117,7 @@ fn concluded(
     claim: &[u8],
     output: &mut [u8],
 ) -> Answer
-    requires { ⌜ length (now words) ≤ 16384 ⌝ }
+    requires { ⌜ InWork (now words) ⌝ }
     ensures { λ r. ⌜ Concluded compare (now (claim .entry)) (clauseLines (now (problem .entry)) table 32 count (now (words .entry))) rules count (now (output .entry)) r (now (output .exit)) ⌝ }
 {
     let cursor = printed(problem, table, words, count, claim, false, output);
@@ -135,7 +141,7 @@ fn judged(
     output: &mut [u8],
     work: &mut [u32],
 ) -> Answer
-    requires { ⌜ (length (now work) ≡ 16384) × (length (now problem) ≤ 65536) × (length (now theory) ≤ 65536) × (length (now derivation) ≤ 65536) ⌝ }
+    requires { ⌜ (length (now work) ≡ 16384) × ShortText (now problem) × ShortText (now theory) × ShortText (now derivation) ⌝ }
     ensures { λ r. ⌜ Told (judgedOf compare (now (problem .entry)) (now (theory .entry)) (now (derivation .entry)) (now (claim .entry)) (now (output .entry))) (now (output .entry)) r (now (output .exit)) ⌝ }
 {
     let ground = ground_theory(problem, theory, derivation, work, layout());

@@ -1,11 +1,13 @@
 // The next theory's words, made behind the theory's and brought to the front.
 use formula::decide::Fit;
 use formula::rewrite::rewrite;
+use text::size::DOMAIN_SIZE;
 use words::store::copy_back;
 use words::store::without_word;
-ghost use Prim.Native.Nat.{_+_, _≤_, _<_};
+ghost use Prim.Native.Nat.{_+_, _<_};
 ghost use mathlib.Core.List.{[]};
 ghost use lib.ListN.{take};
+ghost use Rattle.text.specs.memory.Sizes.{FewElements};
 ghost use Rattle.words.specs.memory.Storing.{spliced, Roomy, Fronted};
 ghost use Rattle.formula.specs.memory.Rewriting.{endWithin, rewrittenWords};
 
@@ -16,10 +18,10 @@ pub fn front_rewritten(
     full: usize,
     next: usize,
     fit: Fit,
-    flags: [bool; 64],
+    flags: [bool; DOMAIN_SIZE],
     domain: u32,
 ) -> usize
-    requires { ⌜ Roomy (now words) at full next × (domain ≤ 64) ⌝ }
+    requires { ⌜ Roomy (now words) at full next × FewElements domain ⌝ }
     ensures { λ r. ⌜ Fronted (spliced (now (words .entry)) at (endWithin (now (words .entry)) at full) full (rewrittenWords fit (now (words .entry)) at full (take domain flags))) next r (now (words .exit)) ⌝ }
 {
     let total = rewrite(words, at, full, next, fit, flags, domain);

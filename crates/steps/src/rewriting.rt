@@ -11,11 +11,13 @@ use formula::decide::rule_fit;
 use guards::admit::admitted;
 use guards::admit::guard_closed;
 use table::table::Table;
+use text::size::DOMAIN_SIZE;
 use text::size::LEVEL_COUNT;
 use text::size::THEORY_SIZE;
 ghost use mathlib.Core.Path.{_≡_};
 ghost use Prim.Native.Nat.{_≤_, _<_};
 ghost use lib.ListN.{length, take, drop};
+ghost use Rattle.text.specs.memory.Sizes.{ShortText, InWork, FewElements, FewNumbers};
 ghost use Rattle.derivation.specs.memory.RuleLines.{positionAt};
 ghost use Rattle.formula.specs.declared.decide.Fit.the-variants.{Quantifier};
 ghost use Rattle.steps.specs.memory.Held.{misfit, madeIn, rewrittenIn, sizedIn};
@@ -25,12 +27,12 @@ ghost use Rattle.steps.specs.memory.Steps.{rowsIn, heldIn, Arranged, Few
 struct Decision {
     number: u32,
     fit: Fit,
-    flags: [bool; 64],
+    flags: [bool; DOMAIN_SIZE],
 }
 
 // The number that a decision is refused with; 0 where the rule fits.
 fn misfit_of(fit: Fit, words: &[u32], at: usize) -> u32
-    requires { ⌜ (length (now words) ≤ 16384) × (fit ≡ Quantifier → at < length (now words)) ⌝ }
+    requires { ⌜ InWork (now words) × (fit ≡ Quantifier → at < length (now words)) ⌝ }
     ensures { λ r. ⌜ r ≡ misfit fit (drop at (now (words .entry))) ⌝ }
 {
     match fit {
@@ -47,15 +49,15 @@ fn misfit_of(fit: Fit, words: &[u32], at: usize) -> u32
 }
 
 // The elements that count for IQ; none for other rules.
-fn flags_for(fit: Fit, words: &[u32], at: usize, table: Table, rows: &[u32]) -> [bool; 64]
-    requires { ⌜ (fit ≡ Quantifier → at < length (now words)) × (length (now words) ≤ 16384) × (table .domain ≤ 64) ⌝ }
+fn flags_for(fit: Fit, words: &[u32], at: usize, table: Table, rows: &[u32]) -> [bool; DOMAIN_SIZE]
+    requires { ⌜ (fit ≡ Quantifier → at < length (now words)) × InWork (now words) × FewElements (table .domain) ⌝ }
     ensures { λ r. ⌜ Flagged table (now (rows .entry)) (drop at (now (words .entry))) fit r ⌝ }
 {
     match fit {
-        Fit::Value(_) => [false; 64],
-        Fit::Junction { every: _ } => [false; 64],
+        Fit::Value(_) => [false; DOMAIN_SIZE],
+        Fit::Junction { every: _ } => [false; DOMAIN_SIZE],
         Fit::Quantifier => admitted(words, at, LEVEL_COUNT, table, rows),
-        Fit::Misfit => [false; 64],
+        Fit::Misfit => [false; DOMAIN_SIZE],
     }
 }
 
@@ -66,10 +68,10 @@ fn replaced(
     live: Live,
     at: usize,
     fit: Fit,
-    flags: [bool; 64],
+    flags: [bool; DOMAIN_SIZE],
     domain: u32,
 ) -> Step
-    requires { ⌜ Arranged layout (length (now work)) × Few live × (at < live .full) × (domain ≤ 64) ⌝ }
+    requires { ⌜ Arranged layout (length (now work)) × Few live × (at < live .full) × FewElements domain ⌝ }
     ensures { λ r. ⌜ ToldStep (sizedIn (heldIn layout live (now (work .entry))) at fit (take domain flags)) layout (now (work .entry)) r (now (work .exit)) ⌝ }
 {
     let rows = layout.rows;
@@ -102,7 +104,7 @@ fn decision_at(
     rule: Rule,
     at: usize,
 ) -> Decision
-    requires { ⌜ Arranged layout (length (now work)) × Few live × (table .domain ≤ 64) × (at ≤ live .full) ⌝ }
+    requires { ⌜ Arranged layout (length (now work)) × Few live × FewElements (table .domain) × (at ≤ live .full) ⌝ }
     ensures { λ r. ⌜ Decides table (rowsIn layout (now (work .entry))) rule (take (live .full) (now (work .entry))) at r ⌝ }
 {
     let full = live.full;
@@ -124,7 +126,7 @@ fn rewritten_at(
     rule: Rule,
     at: usize,
 ) -> Step
-    requires { ⌜ Arranged layout (length (now work)) × Few live × (at ≤ live .full) × (table .domain ≤ 64) ⌝ }
+    requires { ⌜ Arranged layout (length (now work)) × Few live × (at ≤ live .full) × FewElements (table .domain) ⌝ }
     ensures { λ r. ⌜ ToldStep (madeIn table (rowsIn layout (now (work .entry))) rule (heldIn layout live (now (work .entry))) at) layout (now (work .entry)) r (now (work .exit)) ⌝ }
 {
     let decision = decision_at(work, layout, live, table, rule, at);
@@ -147,7 +149,7 @@ pub fn rewritten(
     path: usize,
     steps: usize,
 ) -> Step
-    requires { ⌜ Arranged layout (length (now work)) × Few live × (table .domain ≤ 64) × (path ≤ length (now text)) × (length (now text) ≤ 65536) × (steps ≤ 65536) ⌝ }
+    requires { ⌜ Arranged layout (length (now work)) × Few live × FewElements (table .domain) × (path ≤ length (now text)) × ShortText (now text) × FewNumbers steps ⌝ }
     ensures { λ r. ⌜ ToldStep (rewrittenIn table (rowsIn layout (now (work .entry))) (heldIn layout live (now (work .entry))) rule (positionAt (now (text .entry)) name path steps)) layout (now (work .entry)) r (now (work .exit)) ⌝ }
 {
     match path_target(text, work, layout.names, live, name, path, steps) {

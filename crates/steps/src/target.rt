@@ -6,6 +6,7 @@ use words::walk::past;
 use words::walk::walk;
 ghost use Prim.Native.Nat.{_+_, _≤_};
 ghost use lib.ListN.{length, take, drop};
+ghost use Rattle.text.specs.memory.Sizes.{ShortText, InWork, FewNumbers};
 ghost use Rattle.derivation.specs.memory.RuleLines.{positionAt};
 ghost use Rattle.steps.specs.memory.Held.{held, targetIn, wholeIn};
 ghost use Rattle.steps.specs.memory.Steps.{Few, ToldTarget};
@@ -24,7 +25,7 @@ pub fn path_target(
     path: usize,
     steps: usize,
 ) -> Target
-    requires { ⌜ (length (now work) ≤ 16384) × Few live × (names + live .count ≤ length (now work)) × (live .full ≤ names) × (path ≤ length (now text)) × (length (now text) ≤ 65536) × (steps ≤ 65536) ⌝ }
+    requires { ⌜ InWork (now work) × Few live × (names + live .count ≤ length (now work)) × (live .full ≤ names) × (path ≤ length (now text)) × ShortText (now text) × FewNumbers steps ⌝ }
     ensures { λ r. ⌜ ToldTarget (targetIn (held (take (live .full) (now (work .entry))) (take (live .count) (drop names (now (work .entry)))) (live .top) (live .ended)) (positionAt (now (text .entry)) name path steps)) live r ⌝ }
 {
     let index = index_of(work, names, live.count, name);
@@ -48,7 +49,7 @@ pub fn whole_target(
     path: usize,
     steps: usize,
 ) -> Target
-    requires { ⌜ (length (now work) ≤ 16384) × Few live × (names + live .count ≤ length (now work)) × (live .full ≤ names) × (path ≤ length (now text)) × (length (now text) ≤ 65536) × (steps ≤ 65536) ⌝ }
+    requires { ⌜ InWork (now work) × Few live × (names + live .count ≤ length (now work)) × (live .full ≤ names) × (path ≤ length (now text)) × ShortText (now text) × FewNumbers steps ⌝ }
     ensures { λ r. ⌜ ToldTarget (wholeIn (held (take (live .full) (now (work .entry))) (take (live .count) (drop names (now (work .entry)))) (live .top) (live .ended)) (positionAt (now (text .entry)) name path steps)) live r ⌝ }
 {
     match path_target(text, work, names, live, name, path, steps) {

@@ -8,6 +8,7 @@ use crate::target::whole_target;
 use names::names::Climb;
 use names::names::climbs;
 use names::names::with_names;
+use text::size::FORMULA_COUNT_WITH_SPLIT;
 use words::head::truth_word;
 use words::word::Kind;
 use words::word::Sign;
@@ -19,6 +20,7 @@ ghost use Prim.Native.Nat.{_+_, _≤_, _<_};
 ghost use lib.ListN.{length, getD, take, drop};
 ghost use Rattle.grammar.specs.Outcome.{done};
 ghost use Rattle.text.specs.memory.Numbers.{numbersAt};
+ghost use Rattle.text.specs.memory.Sizes.{ShortText, InWork, FewNumbers, NearNumbers};
 ghost use Rattle.derivation.specs.memory.RuleLines.{positionAt};
 ghost use Rattle.words.specs.memory.Words.{truthWord};
 ghost use Rattle.words.specs.memory.Kinds.{kindOf};
@@ -45,7 +47,7 @@ fn opened(
     many: usize,
     top: u32,
 ) -> Live
-    requires { ⌜ Arranged layout (length (now work)) × Few live × (index < live .count) × (at < live .full) × (live .count + many ≤ 1025) × (length (now text) ≤ 65536) × (names + many ≤ 200000) ⌝ }
+    requires { ⌜ Arranged layout (length (now work)) × Few live × (index < live .count) × (at < live .full) × (live .count + many ≤ 1025) × ShortText (now text) × NearNumbers names many ⌝ }
     ensures { λ r. ⌜ Stepped (openedIn (heldIn layout live (now (work .entry))) (index, at) (numbersAt (now (text .entry)) names many) top) layout (now (work .entry)) r (now (work .exit)) ⌝ }
 {
     let rows = layout.rows;
@@ -104,7 +106,7 @@ fn value_target(
     steps: usize,
     value: bool,
 ) -> Target
-    requires { ⌜ (length (now work) ≤ 16384) × Few live × (names + live .count ≤ length (now work)) × (live .full ≤ names) × (path ≤ length (now text)) × (length (now text) ≤ 65536) × (steps ≤ 65536) ⌝ }
+    requires { ⌜ InWork (now work) × Few live × (names + live .count ≤ length (now work)) × (live .full ≤ names) × (path ≤ length (now text)) × ShortText (now text) × FewNumbers steps ⌝ }
     ensures { λ r. ⌜ ToldTarget (valueIn value (held (take (live .full) (now (work .entry))) (take (live .count) (drop names (now (work .entry)))) (live .top) (live .ended)) (positionAt (now (text .entry)) name path steps)) live r ⌝ }
 {
     match whole_target(text, work, names, live, name, path, steps) {
@@ -128,7 +130,7 @@ pub fn removed(
     path: usize,
     steps: usize,
 ) -> Step
-    requires { ⌜ Arranged layout (length (now work)) × Few live × (path ≤ length (now text)) × (length (now text) ≤ 65536) × (steps ≤ 65536) ⌝ }
+    requires { ⌜ Arranged layout (length (now work)) × Few live × (path ≤ length (now text)) × ShortText (now text) × FewNumbers steps ⌝ }
     ensures { λ r. ⌜ ToldStep (removedIn (heldIn layout live (now (work .entry))) (positionAt (now (text .entry)) name path steps)) layout (now (work .entry)) r (now (work .exit)) ⌝ }
 {
     match value_target(text, work, layout.names, live, name, path, steps, true) {
@@ -191,7 +193,7 @@ pub fn split(
     names: usize,
     many: usize,
 ) -> Step
-    requires { ⌜ Arranged layout (length (now work)) × Few live × (path ≤ length (now text)) × (length (now text) ≤ 65536) × (steps ≤ 65536) × (names + many ≤ 65536) ⌝ }
+    requires { ⌜ Arranged layout (length (now work)) × Few live × (path ≤ length (now text)) × ShortText (now text) × FewNumbers steps × (names + many ≤ 65536) ⌝ }
     ensures { λ r. ⌜ ToldStep (splitIn (heldIn layout live (now (work .entry))) (positionAt (now (text .entry)) name path steps) (numbersAt (now (text .entry)) names many)) layout (now (work .entry)) r (now (work .exit)) ⌝ }
 {
     match climbs(text, names, many, live.top) {
@@ -200,7 +202,7 @@ pub fn split(
                 if !is_split(word_at(work, live.full, at), many) {
                     return Step::Refused(13);
                 }
-                if live.count + many > 1025 {
+                if live.count + many > FORMULA_COUNT_WITH_SPLIT {
                     return Step::Refused(15);
                 }
                 Step::Done(opened(text, work, layout, live, index, at, names, many, top))
@@ -237,7 +239,7 @@ pub fn refuted(
     path: usize,
     steps: usize,
 ) -> Step
-    requires { ⌜ Arranged layout (length (now work)) × Few live × (path ≤ length (now text)) × (length (now text) ≤ 65536) × (steps ≤ 65536) ⌝ }
+    requires { ⌜ Arranged layout (length (now work)) × Few live × (path ≤ length (now text)) × ShortText (now text) × FewNumbers steps ⌝ }
     ensures { λ r. ⌜ ToldStep (refutedIn (heldIn layout live (now (work .entry))) (positionAt (now (text .entry)) name path steps)) layout (now (work .entry)) r (now (work .exit)) ⌝ }
 {
     match value_target(text, work, layout.names, live, name, path, steps, false) {

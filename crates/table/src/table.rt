@@ -1,6 +1,7 @@
 // The problem's table: predicates by the places of their names in the problem's text, their rows as numbers in lent memory.
 use text::name::equal;
 use text::name::part;
+use text::size::PREDICATE_COUNT;
 ghost use mathlib.Core.Path.{_≡_};
 ghost use Prim.Native.Nat.{_<_};
 ghost use lib.ListN.{getD, take, drop};
@@ -12,15 +13,15 @@ pub struct Table {
     pub domain: u32,
     pub inputs: u32,
     pub count: u32,
-    pub start: [u32; 32],
-    pub size: [u32; 32],
-    pub arity: [u32; 32],
-    pub first: [u32; 32],
-    pub rows: [u32; 32],
+    pub start: [u32; PREDICATE_COUNT],
+    pub size: [u32; PREDICATE_COUNT],
+    pub arity: [u32; PREDICATE_COUNT],
+    pub first: [u32; PREDICATE_COUNT],
+    pub rows: [u32; PREDICATE_COUNT],
 }
 
 // What stands at an index of a column; 0 beyond it.
-pub fn entry(column: [u32; 32], i: u32) -> usize
+pub fn entry(column: [u32; PREDICATE_COUNT], i: u32) -> usize
     ensures { λ r. ⌜ r ≡ getD column i 0 ⌝ }
 {
     if i < 32 {

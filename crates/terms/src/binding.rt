@@ -2,6 +2,7 @@
 use table::table::entry;
 use text::name::equal;
 use text::name::part;
+use text::size::LEVEL_COUNT;
 ghost use mathlib.Core.Path.{_≡_};
 ghost use Prim.Native.Nat.{_≤_, _<_};
 ghost use lib.ListN.{take, drop};
@@ -11,8 +12,8 @@ ghost use Rattle.terms.specs.memory.Bindings.{scopeName, boundIn, Binds}
 // At most 32, since each takes a level.
 pub struct Scope {
     pub count: u32,
-    pub start: [u32; 32],
-    pub size: [u32; 32],
+    pub start: [u32; LEVEL_COUNT],
+    pub size: [u32; LEVEL_COUNT],
 }
 
 // No variable.
@@ -21,8 +22,8 @@ pub fn no_scope() -> Scope
 {
     Scope {
         count: 0,
-        start: [0; 32],
-        size: [0; 32],
+        start: [0; LEVEL_COUNT],
+        size: [0; LEVEL_COUNT],
     }
 }
 

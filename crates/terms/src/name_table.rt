@@ -2,6 +2,8 @@
 // first come. A theory may have 64 variables; there is room for one more, so that it is told when there are too many.
 use text::name::equal;
 use text::name::part;
+use text::size::MOST_VARIABLES;
+use text::size::NAME_SIZE;
 ghost use mathlib.Core.Path.{_≡_};
 ghost use Prim.Native.Nat.{_≤_, _<_, min};
 ghost use lib.ListN.{length, getD, take, drop};
@@ -84,7 +86,7 @@ fn is_short(text: &[u8], names: &[u32; 131], i: u32) -> bool
 {
     let at = (2 * i + 1) as usize;
     let name = part(text, wide(names[at]), wide(names[at + 1]));
-    name.len() <= 15
+    name.len() <= NAME_SIZE
 }
 
 // Whether the names are few and short enough for a theory.
@@ -92,7 +94,7 @@ pub fn names_fit(text: &[u8], names: &[u32; 131]) -> bool
     ensures { λ r. ⌜ r ≡ listFits (namesIn (now (text .entry)) (now (names .entry))) ⌝ }
 {
     let count = name_count(names);
-    if count > 64 {
+    if count > MOST_VARIABLES {
         return false;
     }
     let mut i: u32 = 0;

@@ -25,6 +25,7 @@ ghost use lib.ListN.{length};
 ghost use Rattle.grammar.specs.Bytes.{bytes, same};
 ghost use Rattle.grammar.specs.Problem.{Name, readName, isElement};
 ghost use Rattle.logic.specs.Reading.{readVariable, readTerm};
+ghost use Rattle.text.specs.memory.Sizes.{ShortText, FewElements};
 ghost use Rattle.terms.specs.memory.Bindings.{boundIn};
 ghost use Rattle.terms.specs.memory.Entries.{memory};
 ghost use Rattle.terms.specs.memory.Lists.{upTo};
@@ -91,7 +92,7 @@ fn is_element(domain: u32, value: u32) -> bool
 }
 
 fn read_element(text: &[u8], at: usize, domain: u32, work: &mut [u32], to: usize) -> TermRead
-    requires { ⌜ (at ≤ length (now text)) × (domain ≤ 64) ⌝ }
+    requires { ⌜ (at ≤ length (now text)) × FewElements domain ⌝ }
     ensures { λ r. ⌜ ((bound : Name → Bool) (names : List ℕ) → ToldTerm (now (text .entry)) domain bound readElement at (memory names (now (work .entry))) to r (memory names (now (work .exit)))) ⌝ }
 {
     match number_at(text, at) {
@@ -115,7 +116,7 @@ fn read_variable(
     work: &mut [u32],
     to: usize,
 ) -> TermRead
-    requires { ⌜ (at ≤ length (now text)) × (length (now text) ≤ 65536) ⌝ }
+    requires { ⌜ (at ≤ length (now text)) × ShortText (now text) ⌝ }
     ensures { λ r. ⌜ ((n : ℕ) → ToldTerm (now (text .entry)) n (boundIn (now (text .entry)) scope) readVariableTerm at (memory (now (names .entry)) (now (work .entry))) to r (memory (now (names .exit)) (now (work .exit)))) ⌝ }
 {
     match variable_end(text, at) {
@@ -142,7 +143,7 @@ fn read_term(
     work: &mut [u32],
     to: usize,
 ) -> TermRead
-    requires { ⌜ (at ≤ length (now text)) × (length (now text) ≤ 65536) × (domain ≤ 64) ⌝ }
+    requires { ⌜ (at ≤ length (now text)) × ShortText (now text) × FewElements domain ⌝ }
     ensures { λ r. ⌜ ToldTerm (now (text .entry)) domain (boundIn (now (text .entry)) scope) readTerm at (memory (now (names .entry)) (now (work .entry))) to r (memory (now (names .exit)) (now (work .exit))) ⌝ }
 {
     if is_digit(peek(text, at)) {
@@ -162,7 +163,7 @@ fn read_terms(
     work: &mut [u32],
     to: usize,
 ) -> TermsRead
-    requires { ⌜ (at ≤ length (now text)) × (length (now text) ≤ 65536) × (domain ≤ 64) × (to ≤ at + 1000000) ⌝ }
+    requires { ⌜ (at ≤ length (now text)) × ShortText (now text) × FewElements domain × (to ≤ at + 1000000) ⌝ }
     ensures { λ r. ⌜ ToldTerms (now (text .entry)) domain (boundIn (now (text .entry)) scope) (upTo most readTerm) at (memory (now (names .entry)) (now (work .entry))) to r (memory (now (names .exit)) (now (work .exit))) ⌝ }
 {
     let mut i = at;
@@ -209,7 +210,7 @@ pub fn closed_terms(
     work: &mut [u32],
     to: usize,
 ) -> TermsRead
-    requires { ⌜ (at ≤ length (now text)) × (length (now text) ≤ 65536) × (domain ≤ 64) × (to ≤ at + 1000000) ⌝ }
+    requires { ⌜ (at ≤ length (now text)) × ShortText (now text) × FewElements domain × (to ≤ at + 1000000) ⌝ }
     ensures { λ r. ⌜ ToldTerms (now (text .entry)) domain (boundIn (now (text .entry)) scope) (closedUpTo most) at (memory (now (names .entry)) (now (work .entry))) to r (memory (now (names .exit)) (now (work .exit))) ⌝ }
 {
     match read_terms(text, at, most, scope, domain, names, work, to) {
@@ -237,7 +238,7 @@ pub fn read_arguments(
     work: &mut [u32],
     to: usize,
 ) -> TermsRead
-    requires { ⌜ (at ≤ length (now text)) × (length (now text) ≤ 65536) × (domain ≤ 64) × (to ≤ at + 1000000) ⌝ }
+    requires { ⌜ (at ≤ length (now text)) × ShortText (now text) × FewElements domain × (to ≤ at + 1000000) ⌝ }
     ensures { λ r. ⌜ ToldTerms (now (text .entry)) domain (boundIn (now (text .entry)) scope) readTermList at (memory (now (names .entry)) (now (work .entry))) to r (memory (now (names .exit)) (now (work .exit))) ⌝ }
 {
     if peek(text, at) != b'(' {

@@ -5,3 +5,4 @@ pub mod Parts
 pub mod Found
 pub mod FoundBytes
 pub mod Going
+pub mod Sizes

@@ -10,6 +10,7 @@ ghost use mathlib.Core.Path.{_≡_};
 ghost use mathlib.Core.List.{List};
 ghost use Prim.Native.Nat.{ℕ, _≤_};
 ghost use lib.ListN.{length, getD};
+ghost use Rattle.text.specs.memory.Sizes.{ShortText, FewElements, FewPredicates};
 ghost use Rattle.table.specs.memory.Table.{problemIn};
 ghost use Rattle.terms.specs.memory.NameTable.{namesIn};
 ghost use Rattle.terms.specs.memory.Entries.{predicateIndex};
@@ -45,7 +46,7 @@ pub fn read_theory(
     names: &mut [u32; 131],
     work: &mut [u32],
 ) -> TheoryRead
-    requires { ⌜ (length (now text) ≤ 65536) × (table .domain ≤ 64) × (table .count ≤ 32) × (getD (now names) 0 0 ≡ 0) × (4096 ≤ length (now work)) ⌝ }
+    requires { ⌜ ShortText (now text) × FewElements (table .domain) × FewPredicates (table .count) × (getD (now names) 0 0 ≡ 0) × (4096 ≤ length (now work)) ⌝ }
     ensures { λ r. ⌜ ((rows : List ℕ) → ToldTheory (problemIn (now (problem .entry)) table rows) (now (text .entry)) (predicateIndex (now (problem .entry)) table) r (now (names .exit)) (now (work .exit))) ⌝ }
 {
     let mut at: usize = 0;

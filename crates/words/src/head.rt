@@ -11,10 +11,10 @@ use crate::tag::SOME;
 use crate::tag::TRUE;
 use crate::word::Sign;
 ghost use mathlib.Core.Path.{_≡_};
-ghost use Prim.Native.Nat.{_+_, _*_, _<_};
+ghost use Prim.Native.Nat.{_+_, _*_};
 ghost use Rattle.logic.specs.Formula.{junction};
 ghost use Rattle.words.specs.memory.Stored.{sideOf, connectiveOf};
-ghost use Rattle.words.specs.memory.Words.{truthWord, connectiveTag, quantifierTag};
+ghost use Rattle.words.specs.memory.Words.{Payload, truthWord, connectiveTag, quantifierTag};
 
 pub fn truth_word(value: bool) -> u32
     ensures { λ r. ⌜ r ≡ truthWord value ⌝ }
@@ -24,7 +24,7 @@ pub fn truth_word(value: bool) -> u32
 
 // The word of an `&`, if every part counts, or of an `|`.
 pub fn junction_word(every: bool, parts: u32) -> u32
-    requires { ⌜ parts < 268435456 ⌝ }
+    requires { ⌜ Payload parts ⌝ }
     ensures { λ r. ⌜ r ≡ parts * 16 + connectiveTag (junction (sideOf every)) ⌝ }
 {
     if every {
@@ -34,7 +34,7 @@ pub fn junction_word(every: bool, parts: u32) -> u32
 }
 
 pub fn connective_word(sign: Sign, parts: u32) -> u32
-    requires { ⌜ parts < 268435456 ⌝ }
+    requires { ⌜ Payload parts ⌝ }
     ensures { λ r. ⌜ r ≡ parts * 16 + connectiveTag (connectiveOf sign) ⌝ }
 {
     match sign {
@@ -47,7 +47,7 @@ pub fn connective_word(sign: Sign, parts: u32) -> u32
 }
 
 pub fn quantifier_word(every: bool, variable: u32) -> u32
-    requires { ⌜ variable < 268435456 ⌝ }
+    requires { ⌜ Payload variable ⌝ }
     ensures { λ r. ⌜ r ≡ variable * 16 + quantifierTag (sideOf every) ⌝ }
 {
     if every {

@@ -4,6 +4,7 @@ ghost use mathlib.Core.List.{[], _∷_};
 ghost use Prim.Native.Nat.{_+_, _≤_, _<_};
 ghost use lib.ListN.{length};
 ghost use lib.Seq.{slice};
+ghost use Rattle.text.specs.memory.Sizes.{InWork};
 ghost use Rattle.words.specs.memory.Storing.{Stores, Behind, Placed, Rewritten};
 
 // Stores a word, where there is room, and tells the place after it.
@@ -32,7 +33,7 @@ pub fn copy(work: &mut [u32], at: usize, end: usize, to: usize) -> usize
 
 // Copies a range to the front.
 pub fn copy_back(work: &mut [u32], from: usize, size: usize) -> usize
-    requires { ⌜ (size ≤ from) × (from + size ≤ length (now work)) × (length (now work) ≤ 16384) ⌝ }
+    requires { ⌜ (size ≤ from) × (from + size ≤ length (now work)) × InWork (now work) ⌝ }
     ensures { λ r. ⌜ Stores (now (work .entry)) 0 (slice from (from + size) (now (work .entry))) r (now (work .exit)) ⌝ }
 {
     let end = from + size;

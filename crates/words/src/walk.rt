@@ -7,6 +7,7 @@ ghost use mathlib.Core.Path.{_≡_};
 ghost use Prim.Native.Nat.{_+_, _≤_, _<_};
 ghost use lib.ListN.{length, drop};
 ghost use Rattle.text.specs.memory.Numbers.{numbersAt};
+ghost use Rattle.text.specs.memory.Sizes.{ShortText, InWork, FewNumbers};
 ghost use Rattle.words.specs.memory.Kinds.{skip};
 ghost use Rattle.words.specs.memory.Paths.{subformulaCount, placeBelow, placeOf, Within};
 
@@ -38,7 +39,7 @@ pub fn subformula_count(kind: Kind) -> u32
 
 // The place after some formulas.
 pub fn past(work: &[u32], at: usize, count: usize) -> usize
-    requires { ⌜ (length (now work) ≤ 16384) × (at ≤ length (now work)) × (count < 4294967296) ⌝ }
+    requires { ⌜ InWork (now work) × (at ≤ length (now work)) × (count < 4294967296) ⌝ }
     ensures { λ r. ⌜ (r ≡ at + skip (drop at (now (work .entry))) count) × (r ≤ length (now (work .entry))) ⌝ }
 {
     let mut pending = count;
@@ -55,7 +56,7 @@ pub fn past(work: &[u32], at: usize, count: usize) -> usize
 
 // One level down: a part of a connective from 0; of a quantifier 0 for the guard, 1 for the body.
 fn down(work: &[u32], at: usize, part: u32) -> Place
-    requires { ⌜ (length (now work) ≤ 16384) × (at ≤ length (now work)) ⌝ }
+    requires { ⌜ InWork (now work) × (at ≤ length (now work)) ⌝ }
     ensures { λ r. ⌜ (r ≡ placeBelow (now (work .entry)) at part) × Within (length (now (work .entry))) r ⌝ }
 {
     if part < subformula_count(kind_of(peek(work, at))) {
@@ -66,7 +67,7 @@ fn down(work: &[u32], at: usize, part: u32) -> Place
 
 // Along a path, whose numbers stand in a text one after the other.
 pub fn walk(work: &[u32], at: usize, text: &[u8], path: usize, steps: usize) -> Place
-    requires { ⌜ (length (now work) ≤ 16384) × (at ≤ length (now work)) × (path ≤ length (now text)) × (length (now text) ≤ 65536) × (steps ≤ 65536) ⌝ }
+    requires { ⌜ InWork (now work) × (at ≤ length (now work)) × (path ≤ length (now text)) × ShortText (now text) × FewNumbers steps ⌝ }
     ensures { λ r. ⌜ (r ≡ placeOf (now (work .entry)) (numbersAt (now (text .entry)) path steps) at) × Within (length (now (work .entry))) r ⌝ }
 {
     let mut place = at;

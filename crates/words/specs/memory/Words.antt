@@ -1,10 +1,14 @@
 -- The words of a formula: one for each unit of its size, each formula before its parts.
-use Prim.Native.Nat.{ℕ, suc, _+_, _*_}
+use Prim.Native.Nat.{ℕ, suc, _+_, _*_, _<_}
 use mathlib.Core.List.{List, [], _∷_, _++_}
 use mathlib.Core.Bool.{Bool, true, false}
 use Rattle.grammar.specs.Problem.{Name}
 use Rattle.logic.specs.Formula.{Term, element, variable, Terms, noTerms, term, termCount, Side, all, any, Connective, negation, implies, impliedBy, equivalent, junction}
 use Rattle.logic.specs.Formula.{Formula, truth, atom, equal, connective, quantifier, Formulas, noParts, part}
+
+-- what a word of 32 bits holds above its tag: a word is payload * 16 + tag
+abbrev pub Payload : ℕ → Type 0
+Payload n = n < 268435456
 
 abbrev pub truthWord : Bool → ℕ
 truthWord false = 0
