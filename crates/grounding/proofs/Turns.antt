@@ -141,8 +141,8 @@ module _ (table : Table) (rows : List ℕ) (m : Held) (text : Bytes) where
         (going-on 3 (lineIn table rows m) wholeDerivation text judged at 2 heading headed-on (omega (arith, t .after, t .within)) next (among m 0) (rw (t .is)) (t .after) (t .within))
 
 -- the footer is read, and memory is as it was
-pub lines-finished : (whole : JudgedIn) (layout : Layout) (rows : List ℕ) (text : Bytes) (live : Live) (rules names many : ℕ) (old work : List ℕ) → work ≡ old
+pub lines-finished : (whole : JudgedIn) (layout : Layout) (rows : List ℕ) (text : Bytes) (live : Live) (rules line names many : ℕ) (old work : List ℕ) → work ≡ old
     → whole ≡ done (record { last = heldIn layout live old; rules = rules; final = numbersAt text names many }) → Few live → rowsIn layout old ≡ rows → names + many ≤ length text
-    → rules ≤ length text → Finished whole layout rows text live rules names many work
-lines-finished whole layout rows text live rules names many old work same e few kept near counted =
-    record { is = e ∙ rw same; few = few; kept = rw same kept; near = near; counted = counted }
+    → rules ≤ length text → line ≡ rules + 3 → Finished whole layout rows text live rules line names many work
+lines-finished whole layout rows text live rules line names many old work same e few kept near counted footed =
+    record { is = e ∙ rw same; few = few; kept = rw same kept; near = near; counted = counted; footed = footed }

@@ -57,12 +57,13 @@ fn replay_end(text: &[u8], work: &mut [u32], layout: Layout, live: Live, table: 
         Replayed::Done {
             live: last,
             rules,
+            line,
             names,
             many,
         } => {
             let number = end_number(text, names, many, work, layout.names, last, table);
             if number != 0 {
-                return refused_by(number, 3, rules + 3, table);
+                return refused_by(number, 3, line, table);
             }
             Grounded {
                 number: 0,

@@ -22,11 +22,12 @@ ghost use Rattle.steps.specs.memory.Held.{Held, steppedIn};
 ghost use Rattle.steps.specs.memory.Steps.{rowsIn, heldIn, Arranged, Few, ToldStep};
 ghost use Rattle.grounding.specs.memory.Lines.{JudgedIn, GoingIn, ToldMoved, ToldReplayed, movedBy};
 
-// What a derivation comes to: the live formulas, the count of rule lines and the footer's names; or a number and a line.
+// What a derivation comes to: the live formulas, the count of rule lines, the footer's line and its names; or a number and a line.
 pub enum Replayed {
     Done {
         live: Live,
         rules: u32,
+        line: u32,
         names: usize,
         many: usize,
     },
@@ -172,6 +173,7 @@ fn replay_lines(
                 return Replayed::Done {
                     live,
                     rules,
+                    line,
                     names,
                     many,
                 };

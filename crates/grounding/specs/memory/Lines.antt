@@ -56,15 +56,16 @@ ToldHeaded reader text at line (headed.Behind next told) = EndFound reader text 
 ToldHeaded reader text at line (headed.Malformed told) = Refused 10 reader text at × (told ≡ line)
 
 -- what a derivation comes to is in memory
-pub record Finished (outcome : JudgedIn) (layout : Layout) (rows : List ℕ) (text : Bytes) (live : Live) (rules names many : ℕ) (work : List ℕ) : Type 0 where
+pub record Finished (outcome : JudgedIn) (layout : Layout) (rows : List ℕ) (text : Bytes) (live : Live) (rules line names many : ℕ) (work : List ℕ) : Type 0 where
   pub is : outcome ≡ done (record { last = heldIn layout live work; rules = rules; final = numbersAt text names many })
   pub few : Few live
   pub kept : rowsIn layout work ≡ rows
   pub near : names + many ≤ length text
   pub counted : rules ≤ length text
+  pub footed : line ≡ rules + 3
 
 abbrev pub ToldReplayed : JudgedIn → Layout → List ℕ → Bytes → ReplayedRead → List ℕ → Type 0
-ToldReplayed outcome layout rows text (replayed.Done live rules names many) work = Finished outcome layout rows text live rules names many work
+ToldReplayed outcome layout rows text (replayed.Done live rules line names many) work = Finished outcome layout rows text live rules line names many work
 ToldReplayed outcome layout rows text (replayed.Refused number line) work = outcome ≡ refused (refusal number 3 line)
 
 -- a step, with the place behind its line and the line's number

@@ -35,14 +35,14 @@ finished : (last : tie.After-last)
     let start = read .before .before .before .before in
     let a = start .args in
     let n = last .last .given .0 in
-    Finished (derivationFrom (steppedIn (a .table) (rows start)) (memory start) (a .text .now)) (a .layout) (rows start) (a .text .now) (n .0) (n .1 .0) (n .1 .1 .0) (n .1 .1 .1 .0) (read .replay-text .last .1 .0)
+    Finished (derivationFrom (steppedIn (a .table) (rows start)) (memory start) (a .text .now)) (a .layout) (rows start) (a .text .now) (n .0) (n .1 .0) (n .1 .1 .0) (n .1 .1 .1 .0) (n .1 .1 .1 .1 .0) (read .replay-text .last .1 .0)
 finished last = rw (last .last .given .1) at (last .before .before .before .before .replay-text .ensures)
 
 returns : tie.Need-returns
 returns c =
     let ended = c .before .before in let last = ended .before .before .before in
     let start = begun (replayed last) in
-    stops (ended-number (start .args .table) (rows start) (memory start) (start .args .text .now) _ (finished last .is) _ (ended .end-number .ensures) (c .before .if1 .taken) ∙ refuses-as (c .refused-by .ensures))
+    stops (ended-number (start .args .table) (rows start) (memory start) (start .args .text .now) _ (finished last .is) _ (ended .end-number .ensures) (c .before .if1 .taken) ∙ rw (← finished last .footed) (refuses-as (c .refused-by .ensures)))
 
 returns-2 : tie.Need-returns-2
 returns-2 c =
@@ -63,7 +63,6 @@ replay-end-spec =
     (λ c κs. search needs)
     (λ c. search needs)
     (λ c κs. let last = c .before .before in let pre = begun (replayed last) .pre in omega (arith, pre .0, pre .3, finished last .near, finished last .few))
-    (λ c. let last = c .before .before .before .before in omega (arith, finished last .counted, begun (replayed last) .pre .3))
     (λ c κs. search needs)
     (λ c. search needs)
     returns

@@ -125,9 +125,9 @@ returns-2 c =
     let a = begun line .args in
     λ start whole g.
     let t = line-told line _ (c .before .before .names .given .1) start in
-    lines-finished whole (a .layout) (rows line) (a .text .now) (l .live) (l .rules) _ _ (l .work) (left line) (t .1 .1)
+    lines-finished whole (a .layout) (rows line) (a .text .now) (l .live) (l .rules) (l .line) _ _ (l .work) (left line) (t .1 .1)
     (lines-whole (a .table) (rows line) start (a .layout) (l .work) (l .inv .5 start whole g) (turn line .loop-test .taken) _ _ _ (left line) t (omega (arith, c .if1 .left)))
-    (l .inv .1) (l .inv .2) (omega (arith, t .1 .0, t .0 .within)) (omega (arith, l .inv .4 .0, l .inv .0))
+    (l .inv .1) (l .inv .2) (omega (arith, t .1 .0, t .0 .within)) (omega (arith, l .inv .4 .0, l .inv .0)) (l .inv .4 .1)
 
 same-length-3 : tie.Need-same-length-3 Inv-loop μ-loop
 same-length-3 c =
