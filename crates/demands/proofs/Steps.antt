@@ -19,7 +19,7 @@ use Rattle.logic.specs.Tables.{AtPath, MakesAt}
 use Rattle.logic.proofs.Rules.{onJunction-cases, isTruth-true}
 use Rattle.logic.proofs.Tables.{at-path, path-never, at-makes, makes-at}
 use Rattle.demands.specs.Theory.{entry, Theory, formulasOf, State, live, ended, liveTheory, inPlace, wholeOnly, removed, refuted, namedParts, splitParts, split, climbing, highest, within, stepped}
-use Rattle.demands.specs.Steps.{position, absent, Named, nobody, somebody, Step, rewriting, removing, splitting, ending, Steps, stop, go}
+use Rattle.demands.specs.Steps.{position, absent, Named, noneNamed, oneNamed, Step, rewriting, removing, splitting, ending, Steps, stop, go}
 
 -- a formula of that name stands in a theory, and what Q says it may become stands in its place in another
 pub record Placed (Q : Formula → Theory → Type 0) (n : ℕ) (t u : Theory) : Type 0 where
@@ -92,14 +92,14 @@ within-fits top t =
 
 -- SPLITC
 parts-named : (ns : List ℕ) (fs : Formulas) → Allowed (Named ns fs) (namedParts ns fs)
-parts-named [] noParts = nobody
+parts-named [] noParts = noneNamed
 parts-named [] (part f fs) = tt
 parts-named (n ∷ ns) noParts = tt
-parts-named (n ∷ ns) (part f fs) = allowed-mapped (Named ns fs) (Named (n ∷ ns) (part f fs)) (λ ts. entry n f ∷ ts) (λ ts w. somebody n ns f fs ts w) (namedParts ns fs) (parts-named ns fs)
+parts-named (n ∷ ns) (part f fs) = allowed-mapped (Named ns fs) (Named (n ∷ ns) (part f fs)) (λ ts. entry n f ∷ ts) (λ ts w. oneNamed n ns f fs ts w) (namedParts ns fs) (parts-named ns fs)
 
 named-parts : (ns : List ℕ) (fs : Formulas) (ts : Theory) → Named ns fs ts → namedParts ns fs ≡ done ts
-named-parts ns fs ts nobody = refl
-named-parts ns fs ts (somebody n ms f hs us w) = rw (named-parts ms hs us w)
+named-parts ns fs ts noneNamed = refl
+named-parts ns fs ts (oneNamed n ms f hs us w) = rw (named-parts ms hs us w)
 
 pub record Conjunction (names : List ℕ) (f : Formula) (ts : Theory) : Type 0 where
   pub first : Formula

@@ -10,7 +10,7 @@ use Rattle.grammar.proofs.Laws.{each-left, each-right, each-append}
 use Rattle.logic.specs.Formula.{Formula, Formulas, noParts, part, all}
 use Rattle.logic.specs.Meaning.{Structure, nowhere, holds, truths, joinAll, satisfies}
 use Rattle.demands.specs.Theory.{Entry, Theory, formulasOf, namesOf}
-use Rattle.demands.specs.Steps.{Named, nobody, somebody}
+use Rattle.demands.specs.Steps.{Named, noneNamed, oneNamed}
 
 -- each part of a list of parts
 abbrev pub EachPart : (Formula → Type 0) → Formulas → Type 0
@@ -42,8 +42,8 @@ module _ (Q : Formula → Type 0) where
   each-at before after e q = each-right Q (formulasOf before) (formulasOf (e ∷ after)) (rw (formulas-append before (e ∷ after)) at q) .0
 
   pub each-named : (ns : List ℕ) (fs : Formulas) (ts : Theory) → Named ns fs ts → EachPart Q fs → Each Q (formulasOf ts)
-  each-named ns fs ts nobody p = tt
-  each-named ns fs ts (somebody n ms f hs us w) p = (p .0, each-named ms hs us w (p .1))
+  each-named ns fs ts noneNamed p = tt
+  each-named ns fs ts (oneNamed n ms f hs us w) p = (p .0, each-named ms hs us w (p .1))
 
 module _ (S : Structure) where
   pub satisfies-append : (t u : Theory) → satisfies S (formulasOf (t ++ u)) ≡ (satisfies S (formulasOf t) && satisfies S (formulasOf u))
@@ -59,8 +59,8 @@ module _ (S : Structure) where
 
   pub satisfies-named : (ns : List ℕ) (fs : Formulas) (ts : Theory) → Named ns fs ts → joinAll all (truths S nowhere fs) ≡ satisfies S (formulasOf ts)
   unfolding truths
-  satisfies-named ns fs ts nobody = refl
-  satisfies-named ns fs ts (somebody n ms f hs us w) = ap (λ (b : Bool). holds S nowhere f && b) (satisfies-named ms hs us w)
+  satisfies-named ns fs ts noneNamed = refl
+  satisfies-named ns fs ts (oneNamed n ms f hs us w) = ap (λ (b : Bool). holds S nowhere f && b) (satisfies-named ms hs us w)
 
 pub names-append : (t u : Theory) → namesOf (t ++ u) ≡ namesOf t ++ namesOf u
 names-append t u = map-append (λ (e : Entry). e .name) t u

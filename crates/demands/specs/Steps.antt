@@ -21,8 +21,8 @@ absent n (e ∷ es) = not (eqb (e .name) n) && absent n es
 
 -- a list of parts under as many names
 pub data Named : List ℕ → Formulas → Theory → Type 0 where
-  nobody : Named [] noParts []
-  somebody : (n : ℕ) (ns : List ℕ) (f : Formula) (fs : Formulas) (ts : Theory) → Named ns fs ts → Named (n ∷ ns) (part f fs) (entry n f ∷ ts)
+  noneNamed : Named [] noParts []
+  oneNamed : (n : ℕ) (ns : List ℕ) (f : Formula) (fs : Formulas) (ts : Theory) → Named ns fs ts → Named (n ∷ ns) (part f fs) (entry n f ∷ ts)
 
 -- `before` and `after` are the formulas around the one that the line names
 pub data Step (P : Problem) : State → RuleLine → State → Type 0 where

@@ -43,7 +43,7 @@ use Rattle.words.proofs.memory.Inner.{Inner, well}
 use Rattle.words.proofs.memory.Kept.{rule-storable}
 use Rattle.steps.specs.memory.Held.{held, rewrittenIn, openedIn, valueIn, removedIn, isSplit, splitIn, refutedIn}
 use Rattle.held.proofs.HeldWords.{isOver, theoryWords, liveWords, heldOf, words-append, names-few, within-words}
-use Rattle.held.proofs.HeldTargets.{Located, located-names, Aim, nobody, nowhere, somewhere, aimed, Whole, never, entire, aimed-whole, always-refused}
+use Rattle.held.proofs.HeldTargets.{Located, located-names, Aim, notLive, nowhere, somewhere, aimed, Whole, never, entire, aimed-whole, always-refused}
 use Rattle.held.proofs.HeldRules.{putIn, made-held}
 use Rattle.held.proofs.HeldWhole.{truth-told, Split, unsplit, parted, split-told, located-word, opened-held}
 
@@ -125,7 +125,7 @@ module _ (N : Naming) (text : Bytes) (table : Table) (rows : List ℕ) (inside :
 
     rewritten-by : (s : State) → Sound s → Aim N s p → rewrittenIn table rows (heldOf N s) rule p ≡ mapped (heldOf N) (stepped P s (rewrite (ruleOf rule) p))
     unfolding rewrittenIn stepped levelCount
-    rewritten-by s sound (nobody e r) = rw (e, r (becomes s))
+    rewritten-by s sound (notLive e r) = rw (e, r (becomes s))
     rewritten-by s sound (nowhere l e refuses) = rw (e, l .replaced (becomes s), refuses (unlessEnded s (apply P (ruleOf rule))))
     rewritten-by (ended m top) sound (somewhere l r e) = rw (e, l .replaced (becomes (ended m top)), r .rewrite-put (λ f. refused 13))
     rewritten-by (live t top) sound (somewhere l r e) =

@@ -110,7 +110,7 @@ module _ (N : Naming) {n : ℕ} {t : Theory} (l : Located n t) where
 
 module _ (N : Naming) (s : State) (p : Position) where
   pub data Aim : Type 0 where
-    nobody : targetIn (heldOf N s) p ≡ refused 11 → ((k : Formula → Outcome ℕ Theory) → inPlace (p .name) k (liveTheory s) ≡ refused 11) → Aim
+    notLive : targetIn (heldOf N s) p ≡ refused 11 → ((k : Formula → Outcome ℕ Theory) → inPlace (p .name) k (liveTheory s) ≡ refused 11) → Aim
     nowhere : (l : Located (p .name) (liveTheory s)) → targetIn (heldOf N s) p ≡ refused 12
         → ((k : Rewriting) → at (p .path) k (l .formula) ≡ refused 12) → Aim
     somewhere : (l : Located (p .name) (liveTheory s)) (r : Inner N (l .formula) (λ k. at (p .path) k (l .formula)))
@@ -146,7 +146,7 @@ module _ (N : Naming) (s : State) (p : Position) where
   aimed = pick (searched (p .name) (liveTheory s))
     where
       pick : Search (p .name) (liveTheory s) → Aim
-      pick (missing i r) = nobody (aim-missing i) r
+      pick (missing i r) = notLive (aim-missing i) r
       pick (located l) = aim-located l
 
   -- The same for a rule that takes no path: it is refused with a number, or stands at the formula of that name.
@@ -169,7 +169,7 @@ module _ (N : Naming) (n : ℕ) where
 
   whole-path : (s : State) (i : ℕ) (is : List ℕ) → Aim N s (position n (i ∷ is)) → Whole N s (position n (i ∷ is))
   unfolding wholeIn
-  whole-path s i is (nobody e r) = never 11 (rw e) (λ k. r (wholeOnly (i ∷ is) (unlessEnded s k)))
+  whole-path s i is (notLive e r) = never 11 (rw e) (λ k. r (wholeOnly (i ∷ is) (unlessEnded s k)))
   whole-path s i is (nowhere l e refuses) =
       never 12 (rw e) (λ k. l .replaced (wholeOnly (i ∷ is) (unlessEnded s k)) ∙ rw (refuses (λ h. refused 13)))
   whole-path s i is (somewhere l r e) =
