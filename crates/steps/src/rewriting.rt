@@ -48,11 +48,21 @@ fn misfit_of(fit: Fit, words: &[u32], at: usize) -> u32
     }
 }
 
-// The elements that count for IQ; none for other rules.
-fn flags_for(fit: Fit, words: &[u32], at: usize, table: Table, rows: &[u32]) -> [bool; DOMAIN_SIZE]
+// The elements that count for IQ, if nothing is refused; none for other rules.
+fn flags_for(
+    number: u32,
+    fit: Fit,
+    words: &[u32],
+    at: usize,
+    table: Table,
+    rows: &[u32],
+) -> [bool; DOMAIN_SIZE]
     requires { ⌜ (fit ≡ Quantifier → at < length (now words)) × InWork (now words) × FewElements (table .domain) ⌝ }
-    ensures { λ r. ⌜ Flagged table (now (rows .entry)) (drop at (now (words .entry))) fit r ⌝ }
+    ensures { λ r. ⌜ (number ≡ 0 → Flagged table (now (rows .entry)) (drop at (now (words .entry))) fit r) ⌝ }
 {
+    if number != 0 {
+        return [false; DOMAIN_SIZE];
+    }
     match fit {
         Fit::Value(_) => [false; DOMAIN_SIZE],
         Fit::Junction { every: _ } => [false; DOMAIN_SIZE],
@@ -111,11 +121,9 @@ fn decision_at(
     let rows = layout.rows;
     let names = layout.names;
     let fit = rule_fit(rule, &work[..full], at, table, &work[rows..names]);
-    Decision {
-        number: misfit_of(fit, &work[..full], at),
-        fit,
-        flags: flags_for(fit, &work[..full], at, table, &work[rows..names]),
-    }
+    let number = misfit_of(fit, &work[..full], at);
+    let flags = flags_for(number, fit, &work[..full], at, table, &work[rows..names]);
+    Decision { number, fit, flags }
 }
 
 fn rewritten_at(

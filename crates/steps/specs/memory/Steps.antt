@@ -72,4 +72,4 @@ Flagged table rows s fit.Misfit flags = Unit {0}
 pub record Decides (table : Table) (rows : List ℕ) (rule : Rule) (words : List ℕ) (at : ℕ) (r : Decision) : Type 0 where
   pub is : r .fit ≡ ruleFit table rows rule (drop at words)
   pub numbered : r .number ≡ misfit (ruleFit table rows rule (drop at words)) (drop at words)
-  pub flagged : Flagged table rows (drop at words) (r .fit) (r .flags)
+  pub flagged : r .number ≡ 0 → Flagged table rows (drop at words) (r .fit) (r .flags)

@@ -61,7 +61,7 @@ returns c =
     record {
       is = is;
       numbered = unfit .misfit-of .ensures ∙ ap (λ d. misfit d rest) is;
-      flagged = subst (λ rows. Flagged (a .table) rows rest (fitted .rule-fit .result) (c .flags-for .result)) part (c .flags-for .ensures);
+      flagged = λ e. subst (λ rows. Flagged (a .table) rows rest (fitted .rule-fit .result) (c .flags-for .result)) part (c .flags-for .ensures e);
     }
 
 pub decision-at-spec : {M : Type 1} → statement M

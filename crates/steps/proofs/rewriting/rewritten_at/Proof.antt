@@ -49,7 +49,7 @@ returns-2 c =
     let replacing = c .before .before in let past-first = replacing .before .before .before in
     let decision-at-done = past-first .before .before in let begun = decision-at-done .before .before .before in
     let decided = decision-at-done .decision-at .ensures in
-    rw (made-fits (begun .args .table) (rows begun) (begun .args .rule) (memory begun) (begun .args .at) _ _ (decided .is) (fits past-first) (decided .flagged)) (replacing .replaced .ensures)
+    rw (made-fits (begun .args .table) (rows begun) (begun .args .rule) (memory begun) (begun .args .at) _ _ (decided .is) (fits past-first) (decided .flagged (past-first .if1 .left))) (replacing .replaced .ensures)
 
 pub rewritten-at-spec : {M : Type 1} → statement M
 rewritten-at-spec =
