@@ -13,6 +13,7 @@ use words::head::truth_word;
 use words::word::Kind;
 use words::word::Sign;
 use words::word::kind_of;
+use words::word::peek;
 ghost use mathlib.Core.Path.{_≡_};
 ghost use mathlib.Core.List.{[], _∷_};
 ghost use mathlib.Core.Bool.{true, false};
@@ -32,7 +33,7 @@ fn word_at(work: &[u32], full: usize, at: usize) -> u32
     requires { ⌜ full ≤ length (now work) ⌝ }
     ensures { λ r. ⌜ r ≡ getD (take full (now (work .entry))) at 0 ⌝ }
 {
-    if at < full { work[at] } else { 0 }
+    peek(&work[..full], at)
 }
 
 // The theory without the first word of the formula at `at`, and names of the text for its own.
