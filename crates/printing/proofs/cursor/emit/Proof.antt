@@ -7,9 +7,8 @@ use Rattle.printing.proofs.cursor.emit.Tie as tie
 
 returns : tie.Need-returns
 returns c =
-    let put-if = c .before .before .before .put-if in
-    let a = c .before .before .before .before .before .before .before .args in
-    print-one (a .claim .now) (a .store) (a .cursor) _ (a .out .now) _ (a .b) (c .moved .ensures) (put-if .ensures)
+    let put = c .before .before .before in let a = put .before .before .before .before .args in
+    print-one (a .claim .now) (a .store) (a .cursor) _ (a .out .now) _ (a .b) (c .moved .ensures) (put .put-if .ensures)
 
 pub emit-spec : {M : Type 1} → statement M
 emit-spec = tie.close (tie.spec (λ c κs. search needs) (λ c κs. search needs) (λ c. search needs) returns)

@@ -16,25 +16,17 @@ Inv-loop bytes claim store out₀ last₀ i₀ out last i =
 abbrev μ-loop : tie.MeasureT-loop
 μ-loop bytes claim store out₀ last₀ i₀ out last i = length bytes - i
 
-loop-holds : tie.Need-loop-holds Inv-loop μ-loop
-loop-holds c = (omega arith, refl, remains-all)
-
 loop-again : tie.Need-loop-again Inv-loop μ-loop
 loop-again c =
-    let emit = c .before .before .emit in
-    let loop-test = c .before .before .before .before .before .loop-test in
-    let loop = c .before .before .before .before .before .before .loop in
-    let a = c .before .before .before .before .before .before .before .before .before .before .args in
-    let l = loop in
-    (omega arith, emit .kept .1 .1 .1 .1 .0 ∙ l .inv .1, remains-then (l .inv .2) (from-byte (a .bytes .now) (l .i) (loop-test .taken)) (emit .ensures))
-
-same-length : tie.Need-same-length Inv-loop μ-loop
-same-length c = c .before .loop .inv .1
+    let printed = c .before .before in let inside = printed .before .before .before in
+    let turn = inside .before in let emit = printed .emit in
+    let l = turn .loop in
+    (omega arith, emit .kept .1 .1 .1 .1 .0 ∙ l .inv .1, remains-then (l .inv .2) (from-byte (turn .before .before .before .before .args .bytes .now) (l .i) (inside .loop-test .taken)) (emit .ensures))
 
 returns : tie.Need-returns Inv-loop μ-loop
 returns c =
-    let l = c .before .loop in
-    remains-nothing (l .inv .2) (drop-of-length-le (c .before .before .before .before .before .args .bytes .now) (c .loop-test .left))
+    let turn = c .before in
+    remains-nothing (turn .loop .inv .2) (drop-of-length-le (turn .before .before .before .before .args .bytes .now) (c .loop-test .left))
 
 pub emit-all-spec : {M : Type 1} → statement M
 emit-all-spec =
@@ -42,11 +34,11 @@ emit-all-spec =
     (tie.spec
     Inv-loop
     μ-loop
-    loop-holds
+    (λ c. (omega arith, refl, remains-all))
     (λ c. search needs)
     (λ c κs. search needs)
     (λ c. search needs)
     (λ c. search needs)
     loop-again
-    same-length
+    (λ c. c .before .loop .inv .1)
     returns)

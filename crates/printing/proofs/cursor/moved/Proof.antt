@@ -15,28 +15,26 @@ returns c =
 
 returns-2 : tie.Need-returns-2
 returns-2 c =
-    let more = c .before .before .before .before .more in
-    let a = c .before .before .before .before .before .before .args in
-    cursor-other (a .claim .now) (a .cursor) (a .b) _ (more .ensures)
-    (agrees-here (a .claim .now) (a .cursor) (a .b) false (not-false _ (c .before .before .if1 .left)) (sym (c .before .stands .ensures) ∙ not-true _ (c .if2 .taken)))
+    let past-first = c .before .before in let further = past-first .before .before in
+    let a = further .before .before .args in
+    cursor-other (a .claim .now) (a .cursor) (a .b) _ (further .more .ensures)
+    (agrees-here (a .claim .now) (a .cursor) (a .b) false (not-false _ (past-first .if1 .left)) (sym (c .before .stands .ensures) ∙ not-true _ (c .if2 .taken)))
 
 returns-3 : tie.Need-returns-3
 returns-3 c =
-    let if1 = c .before .before .before .if1 in
-    let more = c .before .before .before .before .before .more in
-    let a = c .before .before .before .before .before .before .before .args in
-    cursor-plain (a .claim .now) (a .cursor) (a .b) _ (more .ensures)
-    (agrees-here (a .claim .now) (a .cursor) (a .b) true (not-false _ (if1 .left)) (sym (c .before .before .stands .ensures) ∙ not-false _ (c .before .if2 .left)))
+    let standing = c .before .before in let past-first = standing .before in
+    let further = past-first .before .before in let a = further .before .before .args in
+    cursor-plain (a .claim .now) (a .cursor) (a .b) _ (further .more .ensures)
+    (agrees-here (a .claim .now) (a .cursor) (a .b) true (not-false _ (past-first .if1 .left)) (sym (standing .stands .ensures) ∙ not-false _ (c .before .if2 .left)))
     (c .if3 .taken)
 
 returns-4 : tie.Need-returns-4
 returns-4 c =
-    let stands = c .before .before .before .stands in
-    let if1 = c .before .before .before .before .if1 in
-    let more = c .before .before .before .before .before .before .more in
-    let a = c .before .before .before .before .before .before .before .before .args in
-    cursor-feed (a .claim .now) (a .cursor) (a .b) _ (more .ensures)
-    (agrees-here (a .claim .now) (a .cursor) (a .b) true (not-false _ (if1 .left)) (sym (stands .ensures) ∙ not-false _ (c .before .before .if2 .left)))
+    let past-second = c .before .before in let standing = past-second .before in
+    let past-first = standing .before in let further = past-first .before .before in
+    let a = further .before .before .args in
+    cursor-feed (a .claim .now) (a .cursor) (a .b) _ (further .more .ensures)
+    (agrees-here (a .claim .now) (a .cursor) (a .b) true (not-false _ (past-first .if1 .left)) (sym (standing .stands .ensures) ∙ not-false _ (past-second .if2 .left)))
     _ (c .before .if3 .left) (c .more2 .ensures)
 
 pub moved-spec : {M : Type 1} → statement M

@@ -58,26 +58,26 @@ emit-clause-calls t = (kind-of-reads.Asked, kind-of-reads.Learnt, emit-opening-r
 abbrev emit-parts-calls : ℕ → emit-parts-lts.Claims
 emit-parts-calls t = (emit-clause-below t, emit-clause.Post, past-reads.Asked, past-reads.Learnt, emit-reads.Asked, emit-reads.Learnt)
 
+module _ (t : ℕ) (some : emit-clause-lts.Else1 (emit-clause-calls t) (emit-clause-at t) emit-clause.Post) where
+  abbrev clause-begun : emit-clause-lts.Start (emit-clause-calls t) (emit-clause-at t) emit-clause.Post
+  clause-begun = some .before .before .before .before .before
+
 emit-clause-returns : (t : ℕ) → emit-clause-lts.Need-returns (emit-clause-calls t) (emit-clause-at t) emit-clause.Post
 emit-clause-returns t c =
-    let a = c .before .before .before .before .before .args in
+    let known-here = c .before in let a = known-here .before .before .before .before .args in
     print-nothing (clause-no-level (a .problem .now) (a .table) (a .work .now) (a .at) (a .levels) (c .if1 .taken))
 
 emit-clause-returns-2 : (t : ℕ) → emit-clause-lts.Need-returns-2 (emit-clause-calls t) (emit-clause-at t) emit-clause.Post
 emit-clause-returns-2 t c =
-    let a = c .before .before .before .before .before .before .args in
+    let a = clause-begun t (c .before) .args in
     print-nothing (clause-beyond (a .problem .now) (a .table) (a .work .now) (a .at) (a .levels) (c .if2 .taken))
 
 emit-clause-returns-3 : (t : ℕ) → emit-clause-lts.Need-returns-3 (emit-clause-calls t) (emit-clause-at t) emit-clause.Post
 emit-clause-returns-3 t c =
-    let closed = c .before .before in
-    let parts = closed .before .before .before .before in
-    let counted = parts .before .before in
-    let opened = counted .before .before .before in
-    let known = opened .before .before in
-    let within = known .before .before in
-    let some = within .before in
-    let a = some .before .before .before .before .before .args in
+    let closed = c .before .before in let parts = closed .before .before .before .before in
+    let counted = parts .before .before in let opened = counted .before .before .before in
+    let known = opened .before .before in let within = known .before .before in
+    let some = within .before in let a = clause-begun t some .args in
     print-as (clause-kind (a .problem .now) (a .table) (a .work .now) (a .at) (a .levels) _ (some .if1 .left) (within .if2 .left) (sym (known .kind-of .ensures)))
     (print-then (opened .emit-opening .ensures)
     (print-then (print-as (ap (λ (n : ℕ). joined 44 (partTexts (clauseText (a .problem .now) (a .table) (a .levels - 1)) n (drop (a .at + 1) (a .work .now)))) (sym (counted .subformula-count .ensures))) (parts .emit-parts .ensures))
@@ -92,26 +92,26 @@ emit-parts-Inv-loop work at levels count problem table claim store out₀ last�
 abbrev emit-parts-μ-loop : emit-parts-lts.MeasureT-loop
 emit-parts-μ-loop work at levels count problem table claim store out₀ last₀ i₀ pending₀ out last i pending = pending
 
+module _ (t : ℕ) (turn : emit-parts-lts.At-loop (emit-parts-calls t) (emit-parts-at t) emit-parts.Post emit-parts-Inv-loop emit-parts-μ-loop) where
+  abbrev parts-begun : emit-parts-lts.Start (emit-parts-calls t) (emit-parts-at t) emit-parts.Post emit-parts-Inv-loop emit-parts-μ-loop
+  parts-begun = turn .before .before .before .before .before .before .before .before .before .before .before
+
 emit-parts-returns : (t : ℕ) → emit-parts-lts.Need-returns (emit-parts-calls t) (emit-parts-at t) emit-parts.Post emit-parts-Inv-loop emit-parts-μ-loop
 emit-parts-returns t c =
-    let a = c .before .before .before .before .before .args in
+    let known-here = c .before in let a = known-here .before .before .before .before .args in
     print-nothing (ap (joined 44) (parts-none (clauseText (a .problem .now) (a .table) (a .levels)) (a .count) (drop (a .at) (a .work .now)) (c .if1 .taken)))
-
-emit-parts-loop-holds : (t : ℕ) → emit-parts-lts.Need-loop-holds (emit-parts-calls t) (emit-parts-at t) emit-parts.Post emit-parts-Inv-loop emit-parts-μ-loop
-emit-parts-loop-holds t c = (c .past .ensures .1, refl, remains-all)
 
 emit-parts-past-requires-2 : (t : ℕ) → emit-parts-lts.Need-past-requires-2 (emit-parts-calls t) (emit-parts-at t) emit-parts.Post emit-parts-Inv-loop emit-parts-μ-loop
 emit-parts-past-requires-2 t c κs =
-    let turn = c .before .before .before .before .before .before .before .before .before in
-    omega (arith, turn .before .before .before .before .before .before .before .before .before .before .before .pre, turn .loop .inv .0)
+    let once-more = c .before in let again = once-more .before .before .before .before in
+    let turn = again .before .before .before .before in
+    omega (arith, parts-begun t turn .pre, turn .loop .inv .0)
 
 emit-parts-loop-again : (t : ℕ) → emit-parts-lts.Need-loop-again (emit-parts-calls t) (emit-parts-at t) emit-parts.Post emit-parts-Inv-loop emit-parts-μ-loop
 emit-parts-loop-again t c =
-    let printed = c .before .before .before in
-    let comma = printed .before .before .before .before in
-    let some = comma .before .before in
-    let turn = some .before in
-    let a = turn .before .before .before .before .before .before .before .before .before .before .before .args in
+    let printed = c .before .before .before in let comma = printed .before .before .before .before in
+    let some = comma .before .before in let turn = some .before in
+    let a = parts-begun t turn .args in
     let l = turn .loop in
     let clause = clauseText (a .problem .now) (a .table) (a .levels) in (
       c .past2 .ensures .1,
@@ -128,14 +128,11 @@ emit-parts-same-length t c =
 
 emit-parts-returns-2 : (t : ℕ) → emit-parts-lts.Need-returns-2 (emit-parts-calls t) (emit-parts-at t) emit-parts.Post emit-parts-Inv-loop emit-parts-μ-loop
 emit-parts-returns-2 t c =
-    let turn = c .before in
-    let passed = turn .before in
-    let printed = passed .before .before .before in
-    let some = printed .before .before in
-    let a = some .before .before .before .before .before .args in
+    let turn = c .before in let passed = turn .before in
+    let printed = passed .before .before .before in let a = parts-begun t turn .args in
     let l = turn .loop in
     let clause = clauseText (a .problem .now) (a .table) (a .levels) in
-    print-as (ap (joined 44) (parts-more (a .work .now) (a .at) (a .count) (omega (arith, some .if1 .left)) clause ∙ ap (λ (j : ℕ). clause (drop (a .at) (a .work .now)) ∷ partTexts clause (a .count - 1) (drop j (a .work .now))) (sym (passed .past .ensures .0))))
+    print-as (ap (joined 44) (parts-more (a .work .now) (a .at) (a .count) (omega (arith, printed .before .before .if1 .left)) clause ∙ ap (λ (j : ℕ). clause (drop (a .at) (a .work .now)) ∷ partTexts clause (a .count - 1) (drop j (a .work .now))) (sym (passed .past .ensures .0))))
     (print-then (printed .emit-clause .ensures) (remains-last (l .inv .2) (parts-none clause (l .pending) (drop (l .i) (a .work .now)) (omega arith))))
 
 pub +emit-clause+emit-parts-spec : {M : Type 1} → statement M
@@ -164,7 +161,7 @@ pub +emit-clause+emit-parts-spec : {M : Type 1} → statement M
     (λ c κs. search needs)
     (λ c κs. search needs)
     (λ c. search needs)
-    (emit-parts-loop-holds t)
+    (λ c. (c .past .ensures .1, refl, remains-all))
     (λ c κs. search needs)
     (λ c κs. search needs)
     (emit-parts-past-requires-2 t)

@@ -30,14 +30,14 @@ emit-number-calls t = (emit-reads.Asked, emit-reads.Learnt, emit-number-below t,
 
 emit-number-returns : (t : ℕ) → emit-number-lts.Need-returns (emit-number-calls t) (emit-number-at t) emit-number.Post
 emit-number-returns t c =
-    let if1 = c .before .before .before .before .if1 in
-    print-as (decimal-one (c .before .before .before .before .before .before .before .args .n) (if1 .taken)) (c .before .before .emit .ensures)
+    let printed = c .before .before in let first-holds = printed .before .before in
+    print-as (decimal-one (first-holds .before .before .before .args .n) (first-holds .if1 .taken)) (printed .emit .ensures)
 
 emit-number-returns-2 : (t : ℕ) → emit-number-lts.Need-returns-2 (emit-number-calls t) (emit-number-at t) emit-number.Post
 emit-number-returns-2 t c =
-    let emit-number-told = c .before .before .before .before .before .before .emit-number in
-    let if1 = c .before .before .before .before .before .before .before .before .if1 in
-    print-as (decimal-more (c .before .before .before .before .before .before .before .before .before .before .before .args .n) (if1 .left)) (print-then (emit-number-told .ensures) (c .before .before .emit2 .ensures))
+    let second-printed = c .before .before in let printed = second-printed .before .before .before .before in
+    let past-first = printed .before .before in
+    print-as (decimal-more (past-first .before .before .before .args .n) (past-first .if1 .left)) (print-then (printed .emit-number .ensures) (second-printed .emit2 .ensures))
 
 pub +emit-number-spec : {M : Type 1} → statement M
 +emit-number-spec = close μ-emit-number λ t. emit-number-lts.spec (emit-number-calls t)

@@ -8,21 +8,21 @@ use lib.ListN.{drop}
 use Rattle.printing.proofs.print.emit_atom.Statement.{statement}
 use Rattle.printing.proofs.print.emit_atom.Tie as tie
 
+abbrev begun : tie.After-emit-name → tie.Start
+begun printed = printed .before .before .before .before .before .before
+
 returns : tie.Need-returns
 returns c =
-    let emit-name = c .before .before .before .emit-name in
-    let a = c .before .before .before .before .before .before .before .before .before .args in
-    print-as (atom-plain (a .problem .now) (a .table) (a .predicate) (a .count) (drop (a .at) (a .work .now)) (c .if1 .taken)) (emit-name .ensures)
+    let printed = c .before .before .before in let a = begun printed .args in
+    print-as (atom-plain (a .problem .now) (a .table) (a .predicate) (a .count) (drop (a .at) (a .work .now)) (c .if1 .taken)) (printed .emit-name .ensures)
 
 returns-2 : tie.Need-returns-2
 returns-2 c =
-    let emit-elements = c .before .before .before .before .before .before .emit-elements in
-    let emit = c .before .before .before .before .before .before .before .before .before .before .emit in
-    let if1 = c .before .before .before .before .before .before .before .before .before .before .before .before .if1 in
-    let emit-name = c .before .before .before .before .before .before .before .before .before .before .before .before .before .before .before .emit-name in
-    let a = c .before .before .before .before .before .before .before .before .before .before .before .before .before .before .before .before .before .before .before .before .before .args in
-    print-as (atom-listed (a .problem .now) (a .table) (a .predicate) (a .count) (drop (a .at) (a .work .now)) (if1 .left))
-    (print-then (emit-name .ensures) (print-then (emit .ensures) (print-then (emit-elements .ensures) (c .before .before .emit2 .ensures))))
+    let second-printed = c .before .before in let printed = second-printed .before .before .before .before in
+    let printed-one = printed .before .before .before .before in let past-first = printed-one .before .before in
+    let name-printed = past-first .before .before .before in let a = begun name-printed .args in
+    print-as (atom-listed (a .problem .now) (a .table) (a .predicate) (a .count) (drop (a .at) (a .work .now)) (past-first .if1 .left))
+    (print-then (name-printed .emit-name .ensures) (print-then (printed-one .emit .ensures) (print-then (printed .emit-elements .ensures) (second-printed .emit2 .ensures))))
 
 pub emit-atom-spec : {M : Type 1} → statement M
 emit-atom-spec =

@@ -21,33 +21,33 @@ Inv-loop work at count claim store out₀ last₀ i₀ pending₀ out last i pen
 abbrev μ-loop : tie.MeasureT-loop
 μ-loop work at count claim store out₀ last₀ i₀ pending₀ out last i pending = pending
 
+abbrev begun : tie.At-loop Inv-loop μ-loop → tie.Start Inv-loop μ-loop
+begun turn = turn .before .before .before .before .before .before .before .before .before .before
+
 returns : tie.Need-returns Inv-loop μ-loop
 returns c =
     let start = c .before .before .before .before in
     print-nothing (ap (joined 44) (elements-none (start .args .count) (drop (start .args .at) (start .args .work .now)) (c .if1 .taken)))
 
-loop-holds : tie.Need-loop-holds Inv-loop μ-loop
-loop-holds c = (omega arith, refl, refl, remains-all)
-
 add-i-2 : tie.Need-add-i-2 Inv-loop μ-loop
 add-i-2 c =
-    let loop = c .before .before .before .before .before .before .before .before .before .before .loop in
-    let start = c .before .before .before .before .before .before .before .before .before .before .before .before .before .before .before .before .before .before .before .before in
-    omega (arith, start .pre, loop .inv .1, loop .inv .0)
+    let second-printed = c .before .before in
+    let again = second-printed .before .before .before .before in
+    let turn = again .before .before .before .before in let loop = turn .loop in
+    omega (arith, begun turn .pre, loop .inv .1, loop .inv .0)
 
 loop-again : tie.Need-loop-again Inv-loop μ-loop
 loop-again c =
-    let emit-number2 = c .before .before .emit-number2 in
-    let element-at2 = c .before .before .before .before .element-at2 in
-    let emit = c .before .before .before .before .before .before .before .emit in
-    let loop-test = c .before .before .before .before .before .before .before .before .before .loop-test in
-    let loop = c .before .before .before .before .before .before .before .before .before .before .loop in
-    let l = loop in (
+    let second-printed = c .before .before in let second-element = second-printed .before .before in
+    let printed = second-element .before .before .before in let inside = printed .before .before in
+    let turn = inside .before in let emit-number2 = second-printed .emit-number2 in
+    let emit = printed .emit in
+    let l = turn .loop in (
       omega arith,
       omega arith,
       emit-number2 .kept .1 .1 .1 .1 .0 ∙ (emit .kept .1 .1 .1 .1 .0 ∙ l .inv .2),
-      remains-next (l .inv .3) (elements-more (c .before .before .before .before .before .before .before .before .before .before .before .before .before .before .before .before .before .before .before .before .args .work .now) (l .i) (l .pending) (loop-test .taken)) (emit .ensures)
-          (print-as (ap decimal (sym (element-at2 .ensures))) (emit-number2 .ensures)),
+      remains-next (l .inv .3) (elements-more (begun turn .args .work .now) (l .i) (l .pending) (inside .loop-test .taken)) (emit .ensures)
+          (print-as (ap decimal (sym (second-element .element-at2 .ensures))) (emit-number2 .ensures)),
     )
 
 same-length : tie.Need-same-length Inv-loop μ-loop
@@ -57,13 +57,11 @@ same-length c =
 
 returns-2 : tie.Need-returns-2 Inv-loop μ-loop
 returns-2 c =
-    let emit-number = c .before .before .before .before .emit-number in
-    let element-at = c .before .before .before .before .before .before .element-at in
-    let if1 = c .before .before .before .before .before .before .before .if1 in
-    let a = c .before .before .before .before .before .before .before .before .before .before .before .args in
+    let printed = c .before .before .before .before in let element = printed .before .before in
+    let past-first = element .before in let a = past-first .before .before .before .before .args in
     let l = c .before .loop in
-    print-as (ap (joined 44) (elements-more (a .work .now) (a .at) (a .count) (omega (arith, if1 .left))))
-    (print-then (print-as (ap decimal (sym (element-at .ensures))) (emit-number .ensures))
+    print-as (ap (joined 44) (elements-more (a .work .now) (a .at) (a .count) (omega (arith, past-first .if1 .left))))
+    (print-then (print-as (ap decimal (sym (element .element-at .ensures))) (printed .emit-number .ensures))
     (remains-last (l .inv .3) (elements-none (l .pending) (drop (l .i) (a .work .now)) (omega arith))))
 
 pub emit-elements-spec : {M : Type 1} → statement M
@@ -77,7 +75,7 @@ emit-elements-spec =
     (λ c κs. search needs)
     (λ c. search needs)
     (λ c. search needs)
-    loop-holds
+    (λ c. (omega arith, refl, refl, remains-all))
     (λ c κs. search needs)
     (λ c κs. search needs)
     (λ c κs. search needs)

@@ -21,38 +21,35 @@ Inv-loop work at levels count problem table claim store out₀ last₀ i₀ pend
 abbrev μ-loop : tie.MeasureT-loop
 μ-loop work at levels count problem table claim store out₀ last₀ i₀ pending₀ out last i pending = pending
 
-loop-holds : tie.Need-loop-holds Inv-loop μ-loop
-loop-holds c = (omega arith, refl, remains-all)
+abbrev begun : tie.At-loop Inv-loop μ-loop → tie.Start Inv-loop μ-loop
+begun turn = turn .before .before .before .before .before
 
 past-requires : tie.Need-past-requires Inv-loop μ-loop
 past-requires c κs =
-    let loop = c .before .before .before .before .before .before .before .before .before .loop in
-    let start = c .before .before .before .before .before .before .before .before .before .before .before .before .before .before in
-    omega (arith, start .pre, loop .inv .0)
+    let again = c .before in let moved = again .before .before .before .before in
+    let turn = moved .before .before .before .before in
+    omega (arith, begun turn .pre, turn .loop .inv .0)
 
 loop-again : tie.Need-loop-again Inv-loop μ-loop
 loop-again c =
-    let emit = c .before .before .before .emit in
-    let emit-clause = c .before .before .before .before .before .before .before .emit-clause in
-    let loop-test = c .before .before .before .before .before .before .before .before .before .loop-test in
-    let loop = c .before .before .before .before .before .before .before .before .before .before .loop in
-    let a = c .before .before .before .before .before .before .before .before .before .before .before .before .before .before .before .args in
-    let l = loop in
+    let printed = c .before .before .before in let clause-printed = printed .before .before .before .before in
+    let inside = clause-printed .before .before in let turn = inside .before in
+    let emit = printed .emit in
+    let emit-clause = clause-printed .emit-clause in
+    let a = begun turn .args in
+    let l = turn .loop in
     let t = clauseText (a .problem .now) (a .table) (a .levels) (drop (l .i) (a .work .now)) ++ bytes "\n" in (
       c .past .ensures .1,
       emit .kept .1 .1 .1 .1 .0 ∙ (emit-clause .kept .1 .1 .1 .1 .1 .1 .1 .1 .0 ∙ l .inv .1),
       remains-then (l .inv .2)
-          (lines-more (a .work .now) (l .i) (l .pending) (loop-test .taken) (a .problem .now) (a .table) (a .levels)
+          (lines-more (a .work .now) (l .i) (l .pending) (inside .loop-test .taken) (a .problem .now) (a .table) (a .levels)
           ∙ ap (λ (j : ℕ). t ++ clauseLines (a .problem .now) (a .table) (a .levels) (l .pending - 1) (drop j (a .work .now))) (sym (c .past .ensures .0)))
-          (print-then (emit-clause .ensures) (emit .ensures)),
+          (print-then {s = clauseText (a .problem .now) (a .table) (a .levels) (drop (l .i) (a .work .now))} (emit-clause .ensures) (emit .ensures)),
     )
-
-same-length : tie.Need-same-length Inv-loop μ-loop
-same-length c = c .before .loop .inv .1
 
 returns : tie.Need-returns Inv-loop μ-loop
 returns c =
-    let a = c .before .before .before .before .before .before .args in
+    let a = begun (c .before) .args in
     let l = c .before .loop in
     remains-nothing (l .inv .2) (lines-none (a .problem .now) (a .table) (a .levels) (l .pending) (drop (l .i) (a .work .now)) (omega arith))
 
@@ -62,12 +59,12 @@ emit-lines-spec =
     (tie.spec
     Inv-loop
     μ-loop
-    loop-holds
+    (λ c. (omega arith, refl, remains-all))
     (λ c κs. search needs)
     (λ c κs. search needs)
     past-requires
     (λ c. search needs)
     (λ c. search needs)
     loop-again
-    same-length
+    (λ c. c .before .loop .inv .1)
     returns)

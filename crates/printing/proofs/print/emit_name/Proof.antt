@@ -8,10 +8,9 @@ use Rattle.printing.proofs.print.emit_name.Tie as tie
 
 returns : tie.Need-returns
 returns c =
-    let part = c .before .before .before .before .part in
-    let entry2 = c .before .before .before .before .before .entry2 in
-    let entry = c .before .before .before .before .before .before .entry in
-    print-as (sym (part .ensures ∙ rw (entry .ensures, entry2 .ensures))) (c .before .before .emit-all .ensures)
+    let printed = c .before .before in let parted = printed .before .before in
+    let second-entered = parted .before in
+    print-as (sym (parted .part .ensures ∙ rw (second-entered .before .entry .ensures, second-entered .entry2 .ensures))) (printed .emit-all .ensures)
 
 pub emit-name-spec : {M : Type 1} → statement M
 emit-name-spec =

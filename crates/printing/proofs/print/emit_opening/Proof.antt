@@ -6,38 +6,26 @@ use Rattle.printing.proofs.memory.ClauseText.{opening-kind}
 use Rattle.printing.proofs.print.emit_opening.Statement.{statement}
 use Rattle.printing.proofs.print.emit_opening.Tie as tie
 
+abbrev begun : tie.After-slice-known → tie.Start
+begun known = known .before .before .before .before
+
 returns : tie.Need-returns
 returns c =
-    let kind = c .before .before .before .before .before .kind in
-    let start = c .before .before .before .before .before .before .before .before .before .before .before in
-    print-as (opening-kind (start .args .problem .now) (start .args .table) _ _ _ (kind .given .1)) (c .before .before .emit-truth .ensures)
+    let printed = c .before .before in let told = printed .before .before .before in
+    let a = begun (told .before .before) .args in
+    print-as (opening-kind (a .problem .now) (a .table) _ _ _ (told .kind .given .1)) (printed .emit-truth .ensures)
 
 returns-2 : tie.Need-returns-2
 returns-2 c =
-    let kind2 = c .before .before .before .before .before .kind2 in
-    let start = c .before .before .before .before .before .before .before .before .before .before .before in
-    print-as (opening-kind (start .args .problem .now) (start .args .table) _ _ _ (kind2 .given .1)) (c .before .before .emit-atom .ensures)
-
-returns-3 : tie.Need-returns-3
-returns-3 c =
-    let start = c .before .before .before .before .before .before in
-    print-nothing (opening-kind (start .args .problem .now) (start .args .table) _ _ _ (c .enum-told .given .1))
+    let printed = c .before .before in let told = printed .before .before .before in
+    let a = begun (told .before .before) .args in
+    print-as (opening-kind (a .problem .now) (a .table) _ _ _ (told .kind2 .given .1)) (printed .emit-atom .ensures)
 
 returns-4 : tie.Need-returns-4
 returns-4 c =
-    let kind3 = c .before .before .before .before .before .kind3 in
-    let start = c .before .before .before .before .before .before .before .before .before .before .before in
-    print-as (opening-kind (start .args .problem .now) (start .args .table) _ _ _ (kind3 .given .1)) (c .before .before .emit-sign .ensures)
-
-returns-5 : tie.Need-returns-5
-returns-5 c =
-    let start = c .before .before .before .before .before .before in
-    print-nothing (opening-kind (start .args .problem .now) (start .args .table) _ _ _ (c .enum-told2 .given .1))
-
-returns-6 : tie.Need-returns-6
-returns-6 c =
-    let start = c .before .before .before .before .before .before in
-    print-nothing (opening-kind (start .args .problem .now) (start .args .table) _ _ _ (c .enum-told3 .given .1))
+    let printed = c .before .before in let told = printed .before .before .before in
+    let a = begun (told .before .before) .args in
+    print-as (opening-kind (a .problem .now) (a .table) _ _ _ (told .kind3 .given .1)) (printed .emit-sign .ensures)
 
 pub emit-opening-spec : {M : Type 1} → statement M
 emit-opening-spec =
@@ -56,8 +44,8 @@ emit-opening-spec =
     returns
     (λ c. search needs)
     returns-2
-    returns-3
+    (λ c. let a = begun (c .before .before) .args in print-nothing (opening-kind (a .problem .now) (a .table) _ _ _ (c .enum-told .given .1)))
     (λ c. search needs)
     returns-4
-    returns-5
-    returns-6)
+    (λ c. let a = begun (c .before .before) .args in print-nothing (opening-kind (a .problem .now) (a .table) _ _ _ (c .enum-told2 .given .1)))
+    (λ c. let a = begun (c .before .before) .args in print-nothing (opening-kind (a .problem .now) (a .table) _ _ _ (c .enum-told3 .given .1))))

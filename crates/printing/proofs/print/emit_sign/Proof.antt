@@ -8,28 +8,15 @@ use Rattle.printing.proofs.memory.ClauseText.{opening-all, opening-any}
 use Rattle.printing.proofs.print.emit_sign.Statement.{statement}
 use Rattle.printing.proofs.print.emit_sign.Tie as tie
 
-returns : tie.Need-returns
-returns c = print-nothing (opening-all _ _ (c .before .before .sign .given .1) (c .if1 .taken))
-
 returns-2 : tie.Need-returns-2
 returns-2 c =
     let enum-told = c .before .before .before .before .enum-told in
     print-as (ap signOpening (enum-told .given .1)) (c .before .before .emit .ensures)
 
-returns-3 : tie.Need-returns-3
-returns-3 c = print-nothing (ap signOpening (c .enum-told2 .given .1))
-
-returns-4 : tie.Need-returns-4
-returns-4 c = print-nothing (ap signOpening (c .enum-told3 .given .1))
-
-returns-5 : tie.Need-returns-5
-returns-5 c = print-nothing (ap signOpening (c .enum-told4 .given .1))
-
 returns-6 : tie.Need-returns-6
 returns-6 c =
-    let if1 = c .before .before .before .before .before .if1 in
-    let sign = c .before .before .before .before .before .before .before .sign in
-    print-as (opening-any _ _ (sign .given .1) (if1 .left)) (c .before .before .emit-all .ensures)
+    let printed = c .before .before in let past-first = printed .before .before .before in
+    print-as (opening-any _ _ (past-first .before .before .sign .given .1) (past-first .if1 .left)) (printed .emit-all .ensures)
 
 pub emit-sign-spec : {M : Type 1} → statement M
 emit-sign-spec =
@@ -41,13 +28,13 @@ emit-sign-spec =
     (λ c. search needs)
     (λ c. search needs)
     (λ c. search needs)
-    returns
+    (λ c. print-nothing (opening-all _ _ (c .before .before .sign .given .1) (c .if1 .taken)))
     (λ c. search needs)
     (λ c κs. search needs)
     (λ c. search needs)
     returns-2
-    returns-3
-    returns-4
-    returns-5
+    (λ c. print-nothing (ap signOpening (c .enum-told2 .given .1)))
+    (λ c. print-nothing (ap signOpening (c .enum-told3 .given .1)))
+    (λ c. print-nothing (ap signOpening (c .enum-told4 .given .1)))
     (λ c. search needs)
     returns-6)

@@ -9,13 +9,13 @@ use Rattle.printing.proofs.print.emit_truth.Tie as tie
 
 returns : tie.Need-returns
 returns c =
-    let if1 = c .before .before .before .before .before .if1 in
-    print-as (ap truthText (if1 .taken)) (c .before .before .emit-all .ensures)
+    let printed = c .before .before in
+    print-as (ap truthText (printed .before .before .before .if1 .taken)) (printed .emit-all .ensures)
 
 returns-2 : tie.Need-returns-2
 returns-2 c =
-    let if1 = c .before .before .before .before .before .if1 in
-    print-as (ap truthText (if1 .left)) (c .before .before .emit-all2 .ensures)
+    let second-printed = c .before .before in
+    print-as (ap truthText (second-printed .before .before .before .if1 .left)) (second-printed .emit-all2 .ensures)
 
 pub emit-truth-spec : {M : Type 1} → statement M
 emit-truth-spec =
