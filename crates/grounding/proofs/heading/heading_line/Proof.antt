@@ -1,7 +1,6 @@
 -- `heading::heading_line`: what the reader awaits at line 1 or 2 is a line of the heading, and nothing else.
 -- Assumes nothing.
 use borrow.Author.Needs.{needs}
-use native.Mathlib.Omega.{arith}
 use Prim.Native.Nat.{_+_}
 use mathlib.Core.Path.{ap}
 use Rattle.grounding.proofs.Turns.{heading-found, heading-malformed}
