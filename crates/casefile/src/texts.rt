@@ -5,7 +5,7 @@ use text::byte::peek;
 use text::line::line_end;
 
 // A text: the place and the size of its name, its own, and the place of the next heading.
-#[derive(Drop)]
+#[derive(Clone, Copy)]
 pub struct Section {
     pub name: usize,
     pub named: usize,

@@ -7,7 +7,7 @@ use text::cell::set_byte;
 use text::number::digits_at;
 
 // A place of the file, and one of the memory that the text is written to.
-#[derive(Drop)]
+#[derive(Clone, Copy)]
 struct Spot {
     at: usize,
     to: usize,

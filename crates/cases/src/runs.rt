@@ -23,7 +23,7 @@ const CLAIM: usize = 196800;
 
 const END: usize = 262400;
 
-#[derive(Drop)]
+#[derive(Clone, Copy)]
 enum Command {
     Problem,
     Theory,
@@ -37,7 +37,7 @@ enum Command {
 }
 
 // The size of each text, and how much is lent.
-#[derive(Drop)]
+#[derive(Clone, Copy)]
 struct Setting {
     problem: usize,
     theory: usize,

@@ -1,2 +1,4 @@
 // Whether formulas in memory are ground clauses.
+#![tactic(auto)]
+
 pub mod clause;

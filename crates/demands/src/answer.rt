@@ -1,5 +1,5 @@
 // What the desk sees: 0 with the counts of rule lines and final formulas, or a refusal with its number, file and line.
-#[derive(Drop)]
+#[derive(Clone, Copy)]
 pub struct Answer {
     pub number: u32,
     pub file: u32,

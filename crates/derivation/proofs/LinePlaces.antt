@@ -304,6 +304,7 @@ module _ (text : Bytes) (at : ℕ) {tail : Reading Line} {mid : ℕ} (behind : B
   line_read f = record { is = behind.is ∙ f.is; after = omega (arith, behind.after, f.after); within = f.within }
 
   pub line-told : (r : LineRead) → ToldLine tail text mid r → ToldLine read_line text at r
+  line-told (line.Heading next) told = elim told [ ]
   line-told (line.Position kind name path steps next) told = (line_read told.0, told.1)
   line-told (line.Split name path steps names many next) told = (line_read told.0, told.1)
   line-told (line.Footer names many next) told = (line_read told.0, told.1)

@@ -6,7 +6,7 @@ ghost use Rattle.derivation.specs.memory.RuleLines.{heading_of, Awaited, ToldNum
 use crate::rule_line::{LineRead, grounder_end, line_at, version_end};
 use text::byte::Ended;
 
-#[derive(Drop)]
+#[derive(Clone, Copy)]
 pub struct Reader<'a> {
     pub text: &'a [u8],
     pub at: usize,
@@ -14,7 +14,7 @@ pub struct Reader<'a> {
 }
 
 // A line as it is read, and its number.
-#[derive(Drop)]
+#[derive(Clone, Copy)]
 pub struct Numbered {
     pub read: LineRead,
     pub line: u32,

@@ -10,7 +10,7 @@ use text::number::{Number, number_at};
 use text::size::{GREATEST_NAME, GREATEST_PATH_NUMBER, GROUNDER_SIZE};
 
 // The rules that change a formula, or a part of one.
-#[derive(Drop)]
+#[derive(Clone, Copy)]
 pub enum Rule {
     Snand,
     Snor,
@@ -21,7 +21,7 @@ pub enum Rule {
 }
 
 // A rule line that ends with its position.
-#[derive(Drop)]
+#[derive(Clone, Copy)]
 pub enum AtPosition {
     Rewrite(Rule),
     Unsat,
@@ -29,7 +29,7 @@ pub enum AtPosition {
 }
 
 // A line: of the heading the place after it; its formula's name, and for each list of numbers the place of the first and how many there are.
-#[derive(Drop)]
+#[derive(Clone, Copy)]
 pub enum LineRead {
     Heading {
         next: usize,
@@ -58,28 +58,28 @@ pub enum LineRead {
 }
 
 // A number of a range, and the place after it.
-#[derive(Drop)]
+#[derive(Clone, Copy)]
 enum RangedRead {
     Value(u32, usize),
     Malformed,
 }
 
 // Numbers with commas between them: the place of the first, how many there are, and the place after them.
-#[derive(Drop)]
+#[derive(Clone, Copy)]
 enum NumbersRead {
     Numbers(usize, usize, usize),
     Malformed,
 }
 
 // A formula's name, the place and the count of a path's numbers, and the place after the path.
-#[derive(Drop)]
+#[derive(Clone, Copy)]
 enum PositionRead {
     Position(u32, usize, usize, usize),
     Malformed,
 }
 
 // The kind of a line, and the place after the word that tells it.
-#[derive(Drop)]
+#[derive(Clone, Copy)]
 enum LineKind {
     Position(AtPosition, usize),
     Split(usize),

@@ -4,7 +4,7 @@ ghost use Rattle.io.specs.Counts.{IsPrefixLen};
 ghost use Rattle.desk.specs.Unread.{first_unread};
 
 // What was read of a file: whether it could be opened and read, and how many bytes.
-#[derive(Drop)]
+#[derive(Clone, Copy)]
 pub struct Loaded {
     pub opened: bool,
     pub size: usize,

@@ -1,4 +1,5 @@
 // Reads the four files of a job, checks the derivation and prints the answer.
+#![tactic(auto)]
 mod input;
 mod say;
 

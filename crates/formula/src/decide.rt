@@ -10,7 +10,7 @@ use text::size::VARIABLE_COUNT;
 use words::word::{Kind, Sign, are_elements, kind_of, peek};
 
 // What a rule makes of a formula.
-#[derive(Drop)]
+#[derive(Clone, Copy)]
 pub enum Fit {
     // A truth value takes its place.
     Value(bool),

@@ -11,7 +11,7 @@ use words::walk::past;
 use words::word::peek;
 
 // What is left of a connective: a truth value, or so many parts.
-#[derive(Drop)]
+#[derive(Clone, Copy)]
 pub enum Simplified {
     Value(bool),
     Parts(u32),

@@ -10,11 +10,11 @@ Lent = Bor Bytes
 
 -- the block of memory that it lies in
 abbrev pub block : Lent → ℕ
-block text = text.ptr.0
+block text = text.ref_ptr.0
 
 -- where in the block it begins, in bytes
 abbrev pub offset : Lent → ℕ
-offset text = text.ptr.1
+offset text = text.ref_ptr.1
 
 -- the part is not merely alike: it begins where the line does, and its bytes tell where it ends
 pub record HandedBack (text : Lent) (line : ℕ) (part : Lent) : Type 0 where

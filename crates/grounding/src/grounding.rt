@@ -17,7 +17,7 @@ use table::table::Table;
 use theory::theory_reader::{TheoryRead, read_theory};
 
 // The live formulas and the table, with the count of rule lines; or a number, a file and a line. The number is 0 where there is a ground theory.
-#[derive(Drop)]
+#[derive(Clone, Copy)]
 pub struct Grounded {
     pub number: u32,
     pub file: u32,

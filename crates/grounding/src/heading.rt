@@ -7,7 +7,7 @@ use derivation::reader::read_line;
 use derivation::rule_line::LineRead;
 
 // Behind a line of the heading: the place and the number of the next; or the line's own number.
-#[derive(Drop)]
+#[derive(Clone, Copy)]
 pub enum Headed {
     Behind { next: usize, line: u32 },
     Malformed { line: u32 },

@@ -16,7 +16,7 @@ use steps::whole::{refuted, removed, split};
 use table::table::Table;
 
 // What a derivation comes to: the live formulas, the count of rule lines, the footer's line and its names; or a number and a line.
-#[derive(Drop)]
+#[derive(Clone, Copy)]
 pub enum Replayed {
     Done {
         live: Live,
@@ -32,7 +32,7 @@ pub enum Replayed {
 }
 
 // What a line comes to: the live formulas after it and the place behind it; the footer; or a number and the line's own.
-#[derive(Drop)]
+#[derive(Clone, Copy)]
 enum Moved {
     On {
         live: Live,

@@ -1,1 +1,2 @@
 // What memory holds moves as the theory does. Laws alone, no code.
+#![tactic(auto)]

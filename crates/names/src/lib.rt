@@ -1,2 +1,3 @@
 // The names of the live formulas, in theory order.
+#![tactic(auto)]
 pub mod names;

@@ -11,7 +11,7 @@ use text::number::digits_at;
 use words::store::{copy, copy_back, put};
 
 // Names that climb, with the last of them; or one that is not greater.
-#[derive(Drop)]
+#[derive(Clone, Copy)]
 pub enum Climb {
     To(u32),
     Stuck,

@@ -8,7 +8,7 @@ use text::cell::set_byte;
 const COUNTLESS: usize = 1000000000;
 
 // How many bytes there are so far, whether the claim has the same, and one more than the LFs before the first difference or the end so far.
-#[derive(Drop)]
+#[derive(Clone, Copy)]
 pub struct Cursor {
     pub length: usize,
     pub same: bool,

@@ -1,3 +1,5 @@
 // Ground clauses in memory, printed: counted, compared and stored.
+#![tactic(auto)]
+
 pub mod cursor;
 pub mod print;

@@ -7,7 +7,7 @@ use text::byte::{Class, begins_at, is_capital, peek, run_end};
 use text::number::{Number, number_at};
 
 // A predicate whose name stands at the place, or one of an arity too large to be told.
-#[derive(Drop)]
+#[derive(Clone, Copy)]
 pub enum Declaration {
     Predicate {
         size: usize,

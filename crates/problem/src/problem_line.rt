@@ -15,7 +15,7 @@ use text::number::Number;
 use text::size::{GREATEST_ARITY, GREATEST_ELEMENT, LAST_PREDICATE, NAME_SIZE, PREDICATE_COUNT};
 
 // Where the reading stands: before `domain=`; where inputs or outputs may follow; where `rows=` must follow; where only outputs may follow.
-#[derive(Drop)]
+#[derive(Clone, Copy)]
 pub enum Stage {
     Start,
     Declaring,
@@ -24,7 +24,7 @@ pub enum Stage {
 }
 
 // What is read so far: the table, how many numbers its rows take, and how many tuples they are.
-#[derive(Drop)]
+#[derive(Clone, Copy)]
 pub struct Progress {
     pub stage: Stage,
     pub table: Table,
@@ -33,7 +33,7 @@ pub struct Progress {
 }
 
 // A predicate that is declared: 0 and the place behind it, or the number that it is refused with.
-#[derive(Drop)]
+#[derive(Clone, Copy)]
 pub struct DeclaredRead {
     pub number: u32,
     pub next: usize,
@@ -41,7 +41,7 @@ pub struct DeclaredRead {
 }
 
 // A line: 0 and the place behind it, or the number that it is refused with.
-#[derive(Drop)]
+#[derive(Clone, Copy)]
 pub struct ProblemLineRead {
     pub number: u32,
     pub next: usize,
@@ -49,7 +49,7 @@ pub struct ProblemLineRead {
 }
 
 // A whole text: 0 and the problem's table, or the number and the line that it is refused with.
-#[derive(Drop)]
+#[derive(Clone, Copy)]
 pub struct ProblemRead {
     pub number: u32,
     pub line: u32,

@@ -11,35 +11,35 @@ use text::number::{Number, number_at};
 use text::size::TUPLE_COUNT;
 
 // Elements that can be a row: how many, the row's number, and the elements read as digits; or such as are none.
-#[derive(Drop)]
+#[derive(Clone, Copy)]
 pub enum RowKept {
     Fitting { size: u32, key: u32, rank: u32 },
     Unfit,
 }
 
 // A row that was read, or elements of one.
-#[derive(Drop)]
+#[derive(Clone, Copy)]
 pub enum TupleRead {
     Row { next: usize, row: RowKept },
     Malformed,
 }
 
 // Rows that may stand: how many, and the rank of the last; or such as may not.
-#[derive(Drop)]
+#[derive(Clone, Copy)]
 pub enum RowsKept {
     Fitting { count: u32, last: u32 },
     Unfit,
 }
 
 // Rows that were read.
-#[derive(Drop)]
+#[derive(Clone, Copy)]
 pub enum TuplesRead {
     Rows { next: usize, rows: RowsKept },
     Malformed,
 }
 
 // A whole `rows=` line as it is spelled.
-#[derive(Drop)]
+#[derive(Clone, Copy)]
 pub enum RelationRead {
     Truth { next: usize, value: bool },
     Listed { next: usize, rows: RowsKept },
@@ -47,7 +47,7 @@ pub enum RelationRead {
 }
 
 // The rows that such a line gives a predicate, or the number that it is refused with.
-#[derive(Drop)]
+#[derive(Clone, Copy)]
 pub enum RowsRead {
     Rows { next: usize, count: u32 },
     Refused { number: u32 },

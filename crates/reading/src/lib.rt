@@ -1,4 +1,5 @@
 // A line of the theory, read into words.
+#![tactic(auto)]
 pub mod leaf;
 pub mod opening;
 pub mod part_list;

@@ -7,7 +7,7 @@ use text::byte::begins_at;
 use words::word::Sign;
 
 // A formula without formulas in it; or a connective or a quantifier, and where what follows its sign begins.
-#[derive(Drop)]
+#[derive(Clone, Copy)]
 pub enum Opening {
     Leaf,
     Connective { sign: Sign, next: usize },

@@ -24,7 +24,7 @@ use words::head::{connective_word, quantifier_word};
 use words::word::Sign;
 
 // The place behind a formula, its size and what is told of it; or that it is malformed, or deeper than there are levels left.
-#[derive(Drop)]
+#[derive(Clone, Copy)]
 pub enum Read {
     Done {
         next: usize,
@@ -36,7 +36,7 @@ pub enum Read {
 }
 
 // The same of the parts of a connective, with their number.
-#[derive(Drop)]
+#[derive(Clone, Copy)]
 pub enum PartsRead {
     Done {
         next: usize,
@@ -49,7 +49,7 @@ pub enum PartsRead {
 }
 
 // The same of a guard and a body.
-#[derive(Drop)]
+#[derive(Clone, Copy)]
 pub enum GuardedRead {
     Done {
         next: usize,

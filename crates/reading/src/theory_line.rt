@@ -13,7 +13,7 @@ use text::byte::peek;
 use text::size::MOST_LEVELS;
 
 // The place behind a line, its formula's size and the most quantifiers on a path inside a guard of it; or the number that it is refused with.
-#[derive(Drop)]
+#[derive(Clone, Copy)]
 pub enum TheoryLineRead {
     Done {
         next: usize,

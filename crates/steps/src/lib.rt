@@ -1,4 +1,5 @@
 // Rule lines on the live formulas.
+#![tactic(auto)]
 pub mod front;
 pub mod live;
 pub mod rewriting;

@@ -1,7 +1,7 @@
 // The live formulas in working memory, and where its parts begin.
 
 // How many formulas there are, how many words they have, the greatest name used, and whether UNSAT was.
-#[derive(Drop)]
+#[derive(Clone, Copy)]
 pub struct Live {
     pub count: usize,
     pub full: usize,
@@ -10,7 +10,7 @@ pub struct Live {
 }
 
 // The theory's words stand at the front; then come the next theory's words, the problem's rows and the names. The next names stand `spare` behind the names.
-#[derive(Drop)]
+#[derive(Clone, Copy)]
 pub struct Layout {
     pub next: usize,
     pub rows: usize,
@@ -19,7 +19,7 @@ pub struct Layout {
 }
 
 // What a rule line comes to: the live formulas after it, or the number that it is refused with.
-#[derive(Drop)]
+#[derive(Clone, Copy)]
 pub enum Step {
     Done(Live),
     Refused(u32),

@@ -16,7 +16,7 @@ use table::table::Table;
 use text::size::{DOMAIN_SIZE, LEVEL_COUNT, THEORY_SIZE};
 
 // What is decided of a formula: the number that the rule is refused with, 0 where it fits; and the elements that count for IQ.
-#[derive(Drop)]
+#[derive(Clone, Copy)]
 struct Decision {
     number: u32,
     fit: Fit,

@@ -9,7 +9,7 @@ use crate::live::Live;
 use names::names::index_of;
 use words::walk::{Place, past, walk};
 
-#[derive(Drop)]
+#[derive(Clone, Copy)]
 pub enum Target {
     At { index: usize, at: usize },
     Refused(u32),

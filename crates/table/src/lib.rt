@@ -1,2 +1,4 @@
 // The problem's table: its predicates and where their rows stand.
+#![tactic(auto)]
+
 pub mod table;

@@ -7,7 +7,7 @@ use text::name::{equal, part};
 use text::size::PREDICATE_COUNT;
 
 // The first predicates are the inputs, the others the outputs, in the problem's order.
-#[derive(Drop)]
+#[derive(Clone, Copy)]
 pub struct Table {
     pub domain: u32,
     pub inputs: u32,

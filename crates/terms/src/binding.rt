@@ -8,7 +8,7 @@ use text::name::{equal, part};
 use text::size::LEVEL_COUNT;
 
 // At most 32, since each takes a level.
-#[derive(Drop)]
+#[derive(Clone, Copy)]
 pub struct Scope {
     pub count: u32,
     pub start: [u32; LEVEL_COUNT],

@@ -5,7 +5,7 @@ ghost use Rattle.terms.specs.memory.Facts.{simple_facts, beside, with_form, conn
 
 use words::word::Sign;
 
-#[derive(Drop)]
+#[derive(Clone, Copy)]
 pub struct Facts {
     // Every predicate is known with its arity, every element is in the domain, every variable is bound.
     pub named: bool,

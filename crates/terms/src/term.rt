@@ -19,14 +19,14 @@ use text::number::{Number, number_at};
 use words::tag::{ELEMENT, VARIABLE};
 
 // The place behind a term, and whether it is an element of the domain or a bound variable; or that it is malformed.
-#[derive(Drop)]
+#[derive(Clone, Copy)]
 pub enum TermRead {
     Done { next: usize, named: bool },
     Malformed,
 }
 
 // The place behind terms, how many they are, and whether each is an element of the domain or a bound variable; or that they are malformed.
-#[derive(Drop)]
+#[derive(Clone, Copy)]
 pub enum TermsRead {
     Done {
         next: usize,

@@ -4,7 +4,7 @@ ghost use Rattle.grammar.specs.Bytes.{next, span, begins, is_digit, is_capital, 
 ghost use Rattle.text.specs.memory.Classes.{in_class};
 
 // A class of bytes.
-#[derive(Drop)]
+#[derive(Clone, Copy)]
 pub enum Class {
     Digit,
     SmallOrDigit,
@@ -13,7 +13,7 @@ pub enum Class {
 }
 
 // The place after something that is asked for, if it stands there.
-#[derive(Drop)]
+#[derive(Clone, Copy)]
 pub enum Ended {
     At(usize),
     Malformed,

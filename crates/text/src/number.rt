@@ -10,7 +10,7 @@ use crate::byte::{is_digit, peek};
 const BEYOND: u32 = 1000000;
 
 // What stands at a place where a number is asked.
-#[derive(Drop)]
+#[derive(Clone, Copy)]
 pub enum Number {
     Value { next: usize, value: u32 },
     Beyond { next: usize },
@@ -18,7 +18,7 @@ pub enum Number {
 }
 
 // A run of digits: the place after it, and its value as far as it matters.
-#[derive(Drop)]
+#[derive(Clone, Copy)]
 pub struct Digits {
     pub next: usize,
     pub value: u32,

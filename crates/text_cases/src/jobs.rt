@@ -5,7 +5,7 @@ use crate::{headings, problems, refused};
 use casefile::{say, texts};
 use text::name::part;
 
-#[derive(Drop)]
+#[derive(Clone, Copy)]
 enum Job {
     Heading,
     Problem,

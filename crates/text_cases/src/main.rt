@@ -1,4 +1,5 @@
 // Runs the cases of data/ on the text layer and prints each answer: derivation lines, headings, problems and refused lines.
+#![tactic(auto)]
 mod echo;
 mod headings;
 mod jobs;

@@ -12,7 +12,7 @@ use terms::name_table::names_fit;
 use text::size::{FORMULA_COUNT, GUARD_QUANTIFIER_COUNT, THEORY_SIZE};
 
 // How many formulas there are and how many words they have; or a number and a line.
-#[derive(Drop)]
+#[derive(Clone, Copy)]
 pub enum TheoryRead {
     Done { count: usize, full: usize },
     Refused { number: u32, line: u32 },

@@ -8,7 +8,7 @@ ghost use Rattle.words.specs.memory.Paths.{subformula_count, place_below, place_
 use crate::word::{Kind, kind_of, parts_of, peek};
 
 // Where a formula stands, if there is one.
-#[derive(Drop)]
+#[derive(Clone, Copy)]
 pub enum Place {
     At(usize),
     Nowhere,

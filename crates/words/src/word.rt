@@ -9,7 +9,7 @@ use crate::tag::{
 };
 
 // Which connective.
-#[derive(Drop)]
+#[derive(Clone, Copy)]
 pub enum Sign {
     Negation,
     Implies,
@@ -20,7 +20,7 @@ pub enum Sign {
 }
 
 // The kind of what a word starts: a formula, or a term.
-#[derive(Drop)]
+#[derive(Clone, Copy)]
 pub enum Kind {
     Truth(bool),
     Atom { predicate: u32, terms: u32 },
