@@ -177,7 +177,7 @@ ZeroAccepts J = ((answer_of J).number ≡ 0) ↔ ((G : Ground) × (J ≡ done G)
 
 zero_accepts : {last : ℕ} {J : Judged Ground} → Refuses (Listed last) J → ZeroAccepts J
 zero_accepts (never G) = ((λ e. (G, refl)), λ w. refl)
-zero_accepts (only l) = ((λ e. absurd (omega arith)), λ w. rw w.1)
+zero_accepts (only l) = ((λ e. absurd (omega arith)), λ w. let e = w.1 in cc)
 
 pub replayed-accepts : (problem theory derivation : Bytes) (output work : List ℕ) → ZeroAccepts (replayed problem theory derivation output work)
 replayed-accepts problem theory derivation output work = zero_accepts (replayed-refuses problem theory derivation output work)

@@ -1,3 +1,4 @@
 // The names of the live formulas, in theory order.
 #![tactic(auto)]
+
 pub mod names;

@@ -1,5 +1,6 @@
 // A line of the theory, read into words.
 #![tactic(auto)]
+
 pub mod leaf;
 pub mod opening;
 pub mod part_list;
