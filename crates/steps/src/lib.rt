@@ -1,5 +1,6 @@
 // Rule lines on the live formulas.
 #![tactic(auto)]
+
 pub mod front;
 pub mod live;
 pub mod rewriting;

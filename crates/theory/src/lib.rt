@@ -1,3 +1,4 @@
 // The theory, read line by line.
 #![tactic(auto)]
+
 pub mod theory_reader;
