@@ -6,8 +6,6 @@ use native.Mathlib.Omega.{arith}
 use mathlib.Core.Path.{◌≡◌, refl, sym, ap, ◌∙◌, subst}
 use mathlib.Core.List.{List, [], ◌∷◌}
 use lib.ListN.{length}
-use types.Run.{OneOf, miss}
-use denote.Enum.Declared.{tag_of}
 use Rattle.grammar.specs.Bytes.{Bytes}
 use Rattle.grammar.specs.Outcome.{done, refused}
 use Rattle.grammar.specs.Reading.{Reading}
@@ -24,7 +22,6 @@ use Rattle.derivation.specs.declared.rule_line.LineRead.{LineRead}
 use Rattle.derivation.specs.declared.rule_line.LineRead.TheVariants as read
 use Rattle.derivation.specs.declared.rule_line.Rule.{Rule as RuleName}
 use Rattle.derivation.specs.declared.rule_line.Rule.TheVariants.{Snand, Snor, Stn, Epred, Eprop, Iq}
-use Rattle.derivation.specs.contracts.rule_line.LineRead as Line-read
 use Rattle.steps.specs.memory.Held.{Held, rule_name, stepped_in}
 use Rattle.steps.specs.memory.Steps.{rows_in, held_in, Few, ToldStep}
 use Rattle.steps.specs.declared.live.Live.{Live}
@@ -102,11 +99,11 @@ module _ {A : Type 0} {reader : Reading A} {text : Bytes} {at told : ℕ} {r : L
   heading_found {next} e (ended.At place, (t, is)) same =
       let p : place ≡ next = cc (e, is) in
       (subst (EndFound reader text at) p t, same)
-  heading_found e (ended.Malformed, (t, is)) same = absurd (miss (0 ∷ []) 4 tt (ap (tag_of Line-read.the_type) (sym is ∙ e)))
+  heading_found e (ended.Malformed, (t, is)) same = cc (e, is)
 
-  pub heading_malformed : OneOf (1 ∷ 2 ∷ 3 ∷ 4 ∷ []) (tag_of Line-read.the_type r) → ToldHeading reader text at r → told ≡ line
+  pub heading_malformed : ((next : ℕ) → r ≡ read.Heading next → ⊥) → ToldHeading reader text at r → told ≡ line
       → ToldHeaded reader text at line (headed.Malformed told)
-  heading_malformed other (ended.At place, (t, is)) same = absurd (miss (1 ∷ 2 ∷ 3 ∷ 4 ∷ []) 0 tt (rw is at other))
+  heading_malformed other (ended.At place, (t, is)) same = absurd (other place is)
   heading_malformed other (ended.Malformed, (t, is)) same = (t, same)
 
 module _ (table : Table) (rows : List ℕ) (m : Held) (text : Bytes) where

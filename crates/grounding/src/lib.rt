@@ -1,5 +1,6 @@
 // A derivation replayed to its end: from the texts to the ground theory.
 #![tactic(auto)]
+
 pub mod ending;
 pub mod grounding;
 pub mod heading;
