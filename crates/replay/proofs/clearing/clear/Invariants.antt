@@ -1,0 +1,12 @@
+-- `clearing::clear` zeroes numbers one by one. The invariant: those passed are zero, and the others as they were.
+use Prim.Native.Nat.{◌-◌, ◌≤◌}
+use mathlib.Core.Path.{◌≡◌}
+use mathlib.Core.List.{◌++◌}
+use lib.ListN.{length, drop, replicate}
+use Rattle.replay.proofs.clearing.clear.Given as goal
+
+abbrev pub invariant-loop-i : goal.invariant-loop-i
+invariant-loop-i l = (l.i ≤ l.count) × (length l.work ≡ length l.initial.work) × (l.work ≡ replicate l.i 0 ++ drop l.i l.initial.work)
+
+abbrev pub decreases-loop-i : goal.decreases-loop-i
+decreases-loop-i l = l.count - l.i
