@@ -1,5 +1,7 @@
 // Folders as the desk gets them: each that folders/list names is checked by its four files, and what the desk prints follows its name.
 use casefile::{say, texts, written};
+use std::io::Result;
+use std::rt::Files;
 use text::line::line_end;
 use text::name::part;
 
@@ -17,7 +19,7 @@ fn put_path(folder: &[u8], file: &[u8], path: &mut [u8]) -> usize {
     put_word(file, path, at)
 }
 
-fn one(folder: &[u8]) {
+fn one(rt: &(impl Files + Print), folder: &[u8]) -> Result<()> {
     let mut problem = io::buffer();
     let mut theory = io::buffer();
     let mut derivation = io::buffer();
@@ -26,29 +28,31 @@ fn one(folder: &[u8]) {
     let t = put_path(folder, b"theory.fox", &mut theory);
     let d = put_path(folder, b"proof.fox", &mut derivation);
     let c = put_path(folder, b"claim.fox", &mut claim);
-    say::word(b"folder ");
-    say::word(folder);
-    say::word(b"\n");
+    say::word(rt, b"folder ")?;
+    say::word(rt, folder)?;
+    say::word(rt, b"\n")?;
     desk::check_files(
+        rt,
         part(&problem, 0, p),
         part(&theory, 0, t),
         part(&derivation, 0, d),
         part(&claim, 0, c),
-    );
+    )
 }
 
 // Each folder that a list names, one on a line.
-fn listed(list: &[u8]) {
+fn listed(rt: &(impl Files + Print), list: &[u8]) -> Result<()> {
     let mut at: usize = 0;
     while at < list.len() {
         let end = line_end(list, at);
-        one(part(list, at, end - at));
+        one(rt, part(list, at, end - at))?;
         at = texts::after_line(list, at);
     }
+    Ok(())
 }
 
-pub fn all() {
+pub fn all(rt: &(impl Files + Print)) -> Result<()> {
     let mut buffer = io::buffer();
-    let n = say::load(b"folders/list", &mut buffer);
-    listed(&buffer[..n]);
+    let n = say::load(rt, b"folders/list", &mut buffer);
+    listed(rt, &buffer[..n])
 }

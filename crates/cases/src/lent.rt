@@ -1,5 +1,6 @@
 // The memory that is lent to a job: what stands in it before, and what is left in it.
 use casefile::say;
+use std::io::Result;
 
 // What an output has at a place before a job: bytes from 128 on, which no ground text has.
 fn byte_before(i: usize) -> u8 {
@@ -80,21 +81,23 @@ fn spoiled_number(work: &[u32], from: usize) -> usize {
 }
 
 // How many bytes were written at the beginning, and the first place behind them that was not kept.
-pub fn say_output(output: &[u8]) {
+pub fn say_output(rt: &impl Print, output: &[u8]) -> Result<()> {
     let size = written(output);
-    say::counted(b" output=", size as u64);
+    say::counted(rt, b" output=", size as u64)?;
     let spoiled = spoiled_byte(output, size);
     if spoiled < output.len() {
-        say::counted(b" spoiled=", spoiled as u64);
+        say::counted(rt, b" spoiled=", spoiled as u64)?;
     }
+    Ok(())
 }
 
 // How many numbers were cleared at the beginning, and the first place behind them that was not kept.
-pub fn say_work(work: &[u32]) {
+pub fn say_work(rt: &impl Print, work: &[u32]) -> Result<()> {
     let size = zeros(work);
-    say::counted(b" work=", size as u64);
+    say::counted(rt, b" work=", size as u64)?;
     let spoiled = spoiled_number(work, size);
     if spoiled < work.len() {
-        say::counted(b" spoiled=", spoiled as u64);
+        say::counted(rt, b" spoiled=", spoiled as u64)?;
     }
+    Ok(())
 }

@@ -7,6 +7,8 @@ use crate::lent;
 use casefile::texts::{Section, between};
 use casefile::{say, texts, written};
 use demands::answer::Answer;
+use std::io::Result;
+use std::rt::Files;
 use text::byte::begins_at;
 use text::line::line_end;
 use text::name::part;
@@ -96,23 +98,30 @@ fn numbers_lent(size: usize, work: &[u32]) -> usize
     if size < work.len() { size } else { work.len() }
 }
 
-fn say_answer(line: &[u8], answer: Answer) {
-    say::word(line);
-    say::counted(b": number=", answer.number as u64);
-    say::counted(b" file=", answer.file as u64);
-    say::counted(b" line=", answer.line as u64);
-    say::counted(b" rules=", answer.rules as u64);
-    say::counted(b" formulas=", answer.formulas as u64);
+fn say_answer(rt: &impl Print, line: &[u8], answer: Answer) -> Result<()> {
+    say::word(rt, line)?;
+    say::counted(rt, b": number=", answer.number as u64)?;
+    say::counted(rt, b" file=", answer.file as u64)?;
+    say::counted(rt, b" line=", answer.line as u64)?;
+    say::counted(rt, b" rules=", answer.rules as u64)?;
+    say::counted(rt, b" formulas=", answer.formulas as u64)
 }
 
-fn say_lent(output: &[u8], work: &[u32]) {
-    lent::say_output(output);
-    lent::say_work(work);
-    say::word(b"\n");
-    say::word(part(output, 0, lent::written(output)));
+fn say_lent(rt: &impl Print, output: &[u8], work: &[u32]) -> Result<()> {
+    lent::say_output(rt, output)?;
+    lent::say_work(rt, work)?;
+    say::word(rt, b"\n")?;
+    say::word(rt, part(output, 0, lent::written(output)))
 }
 
-fn check(line: &[u8], setting: Setting, texts: &[u8], output: &mut [u8], work: &mut [u32]) {
+fn check(
+    rt: &impl Print,
+    line: &[u8],
+    setting: Setting,
+    texts: &[u8],
+    output: &mut [u8],
+    work: &mut [u32],
+) -> Result<()> {
     let answer = replay::job::check(
         part(texts, PROBLEM, setting.problem),
         part(texts, THEORY, setting.theory),
@@ -121,11 +130,18 @@ fn check(line: &[u8], setting: Setting, texts: &[u8], output: &mut [u8], work: &
         output,
         work,
     );
-    say_answer(line, answer);
-    say_lent(output, work);
+    say_answer(rt, line, answer)?;
+    say_lent(rt, output, work)
 }
 
-fn replay(line: &[u8], setting: Setting, texts: &[u8], output: &mut [u8], work: &mut [u32]) {
+fn replay(
+    rt: &impl Print,
+    line: &[u8],
+    setting: Setting,
+    texts: &[u8],
+    output: &mut [u8],
+    work: &mut [u32],
+) -> Result<()> {
     let answer = replay::job::replay(
         part(texts, PROBLEM, setting.problem),
         part(texts, THEORY, setting.theory),
@@ -133,8 +149,8 @@ fn replay(line: &[u8], setting: Setting, texts: &[u8], output: &mut [u8], work: 
         output,
         work,
     );
-    say_answer(line, answer);
-    say_lent(output, work);
+    say_answer(rt, line, answer)?;
+    say_lent(rt, output, work)
 }
 
 // Writes a text to its room; its size.
@@ -168,51 +184,54 @@ fn changed(
 
 // What a line of the file runs, on memory that is all lent.
 fn run(
+    rt: &impl Print,
     command: Command,
     line: &[u8],
     setting: Setting,
     texts: &[u8],
     output: &mut [u8],
     work: &mut [u32],
-) {
+) -> Result<()> {
     match command {
         Command::Check => {
             lent::fill(output, work);
-            check(line, setting, texts, output, work)
+            check(rt, line, setting, texts, output, work)
         }
         Command::Replay => {
             lent::fill(output, work);
-            replay(line, setting, texts, output, work)
+            replay(rt, line, setting, texts, output, work)
         }
-        Command::Unknown => say::word(b"unknown command\n"),
-        Command::Problem => {}
-        Command::Theory => {}
-        Command::Derivation => {}
-        Command::Claim => {}
-        Command::Output => {}
-        Command::Work => {}
+        Command::Unknown => say::word(rt, b"unknown command\n"),
+        Command::Problem => Ok(()),
+        Command::Theory => Ok(()),
+        Command::Derivation => Ok(()),
+        Command::Claim => Ok(()),
+        Command::Output => Ok(()),
+        Command::Work => Ok(()),
     }
 }
 
 // The same, with as much lent as is set.
 fn run_lent(
+    rt: &impl Print,
     command: Command,
     line: &[u8],
     setting: Setting,
     texts: &[u8],
     output: &mut [u8],
     work: &mut [u32],
-) {
+) -> Result<()> {
     let bytes = bytes_lent(setting.output, output);
     let numbers = numbers_lent(setting.work, work);
     run(
+        rt,
         command,
         line,
         setting,
         texts,
         &mut output[..bytes],
         &mut work[..numbers],
-    );
+    )
 }
 
 // How much is lent, where a file does not say; no texts.
@@ -227,7 +246,13 @@ fn beginning() -> Setting {
     }
 }
 
-fn each(file: &[u8], texts: &mut [u8], output: &mut [u8], work: &mut [u32]) {
+fn each(
+    rt: &impl Print,
+    file: &[u8],
+    texts: &mut [u8],
+    output: &mut [u8],
+    work: &mut [u32],
+) -> Result<()> {
     let mut setting = beginning();
     let mut at: usize = 0;
     while at < file.len() {
@@ -235,9 +260,10 @@ fn each(file: &[u8], texts: &mut [u8], output: &mut [u8], work: &mut [u32]) {
         let line = part(file, section.name, section.named);
         let command = command_of(line);
         setting = changed(command, file, section, line, setting, texts);
-        run_lent(command, line, setting, texts, output, work);
+        run_lent(rt, command, line, setting, texts, output, work)?;
         at = section.next;
     }
+    Ok(())
 }
 
 fn texts_room() -> [u8; 262400]
@@ -252,27 +278,40 @@ fn work_room() -> [u32; 16400]
     [0; 16400]
 }
 
-fn file(path: &[u8], texts: &mut [u8], output: &mut [u8], work: &mut [u32]) {
+fn file(
+    rt: &(impl Files + Print),
+    path: &[u8],
+    texts: &mut [u8],
+    output: &mut [u8],
+    work: &mut [u32],
+) -> Result<()> {
     let mut buffer = io::large_buffer();
-    let n = say::load(path, &mut buffer);
-    each(&buffer[..n], texts, output, work);
+    let n = say::load(rt, path, &mut buffer);
+    each(rt, &buffer[..n], texts, output, work)
 }
 
 // Each file that a list names, one on a line.
-fn listed(list: &[u8], texts: &mut [u8], output: &mut [u8], work: &mut [u32]) {
+fn listed(
+    rt: &(impl Files + Print),
+    list: &[u8],
+    texts: &mut [u8],
+    output: &mut [u8],
+    work: &mut [u32],
+) -> Result<()> {
     let mut at: usize = 0;
     while at < list.len() {
         let end = line_end(list, at);
-        file(part(list, at, end - at), texts, output, work);
+        file(rt, part(list, at, end - at), texts, output, work)?;
         at = texts::after_line(list, at);
     }
+    Ok(())
 }
 
-pub fn all() {
+pub fn all(rt: &(impl Files + Print)) -> Result<()> {
     let mut buffer = io::buffer();
-    let n = say::load(b"runs/list", &mut buffer);
+    let n = say::load(rt, b"runs/list", &mut buffer);
     let mut texts = texts_room();
     let mut output = io::large_buffer();
     let mut work = work_room();
-    listed(&buffer[..n], &mut texts, &mut output, &mut work);
+    listed(rt, &buffer[..n], &mut texts, &mut output, &mut work)
 }

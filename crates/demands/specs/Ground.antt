@@ -1,7 +1,7 @@
 -- The end of a derivation: the footer lists all live names, 16; the final formulas are ground clauses, 17; their text.
 use Rattle.std.specs.Prelude.{ℕ, ◌+◌, List, Bool, true}
 use Rattle.grammar.specs.Bytes.{Bytes, same, every}
-use Rattle.grammar.specs.Outcome.{done, provided, ◌>>=◌, ◌>>◌}
+use Rattle.grammar.specs.Outcome.{done, provided, ◌>>◌}
 use Rattle.grammar.specs.Lines.{Judged, refusal}
 use Rattle.grammar.specs.Problem.{Problem}
 use Rattle.logic.specs.Formula.{Formula}

@@ -3,6 +3,10 @@ ghost use Rattle.std.specs.Prelude.{◌≤◌, ◌≡◌, length};
 ghost use Rattle.io.specs.Counts.{IsPrefixLen};
 ghost use Rattle.desk.specs.Unread.{first_unread};
 
+use std::fs;
+use std::io::Read;
+use std::rt::Files;
+
 // What was read of a file: whether it could be opened and read, and how many bytes.
 #[derive(Clone, Copy)]
 pub struct Loaded {
@@ -33,35 +37,31 @@ fn unread() -> Loaded
 }
 
 // Reads until the room is full, the file ends or a read fails.
-fn fill(fd: i32, room: &mut [u8]) -> Loaded
+fn fill(file: &mut impl Read, room: &mut [u8]) -> Loaded
     ensures { result.size ≤ length room.new }
 {
     let mut size: usize = 0;
     while size < room.len() {
-        let got = libc::read(fd, &mut room[size..]);
-        if got < 0 {
-            return unread();
+        match file.read(&mut room[size..]) {
+            Ok(0) => return Loaded { opened: true, size },
+            Ok(more) => size += more,
+            Err(_) => return unread(),
         }
-        let more = io::count(got, &room[size..]);
-        if more == 0 {
-            return Loaded { opened: true, size };
-        }
-        size += more;
     }
     Loaded { opened: true, size }
 }
 
 // A file of the folder; unread, where it can't be opened, or not be read, as a folder.
-pub fn load(path: &[u8], room: &mut [u8]) -> Loaded
+pub fn load(rt: &impl Files, path: &[u8], room: &mut [u8]) -> Loaded
     ensures { IsPrefixLen result.size room.new }
 {
-    let fd = os::open_read(path);
-    if fd < 0 {
+    let Ok(name) = str::from_utf8(path) else {
         return unread();
+    };
+    match fs::open(rt, name) {
+        Ok(mut file) => fill(&mut file, room),
+        Err(_) => unread(),
     }
-    let loaded = fill(fd, room);
-    libc::close(fd);
-    loaded
 }
 
 // The number of the first file that is not open, 0 where all are.

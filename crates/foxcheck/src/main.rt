@@ -1,5 +1,13 @@
 // Checks the derivation of the folder that it is run in, and prints the answer.
 #![tactic(auto)]
-fn main() {
-    desk::check_files(b"problem.fox", b"theory.fox", b"proof.fox", b"claim.fox");
+use std::io::Result;
+
+fn main(rt: HostRuntime) -> Result<()> {
+    desk::check_files(
+        &rt,
+        b"problem.fox",
+        b"theory.fox",
+        b"proof.fox",
+        b"claim.fox",
+    )
 }

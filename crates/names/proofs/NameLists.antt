@@ -8,7 +8,6 @@ use mathlib.Core.List.{List, [], ◌∷◌, ◌++◌}
 use lib.ListN.{length, get_or, take, drop, set, length-take, length-drop, drop_of_length-le}
 use lib.Seq.{drop-cons, get_or-take, get_or-drop, set_at}
 use borrow.Author.Tests.{eq-eqb, ne_eqb}
-use Rattle.grammar.specs.Bytes.{same}
 use Rattle.logic.specs.Meaning.{count_from}
 use Rattle.logic.proofs.Meaning.{length-count_from}
 use Rattle.names.specs.memory.Names.{index_in}

@@ -1,37 +1,39 @@
 // The file `lines`: derivation lines, each with the number of its line and what it is read as.
-ghost use Rattle.std.specs.Prelude.{◌≤◌, ◌<◌, length};
+ghost use Rattle.std.specs.Prelude.{◌≤◌, ◌<◌, length, IfOk};
 
 use casefile::{say, texts};
 use derivation::rule_line::{AtPosition, LineRead, Rule};
+use std::io::Result;
+use std::rt::Files;
 
-fn say_rule(rule: Rule) {
+fn say_rule(rt: &impl Print, rule: Rule) -> Result<()> {
     match rule {
-        Rule::Snand => say::word(b"SNAND"),
-        Rule::Snor => say::word(b"SNOR"),
-        Rule::Stn => say::word(b"STN"),
-        Rule::Epred => say::word(b"EPRED"),
-        Rule::Eprop => say::word(b"EPROP"),
-        Rule::Iq => say::word(b"IQ"),
+        Rule::Snand => say::word(rt, b"SNAND"),
+        Rule::Snor => say::word(rt, b"SNOR"),
+        Rule::Stn => say::word(rt, b"STN"),
+        Rule::Epred => say::word(rt, b"EPRED"),
+        Rule::Eprop => say::word(rt, b"EPROP"),
+        Rule::Iq => say::word(rt, b"IQ"),
     }
 }
 
-fn say_kind(kind: AtPosition) {
+fn say_kind(rt: &impl Print, kind: AtPosition) -> Result<()> {
     match kind {
-        AtPosition::Rewrite(rule) => say_rule(rule),
-        AtPosition::Unsat => say::word(b"UNSAT"),
-        AtPosition::Trivial => say::word(b"TRIVIAL"),
+        AtPosition::Rewrite(rule) => say_rule(rt, rule),
+        AtPosition::Unsat => say::word(rt, b"UNSAT"),
+        AtPosition::Trivial => say::word(rt, b"TRIVIAL"),
     }
 }
 
-fn say_position(name: u32, steps: usize) {
-    say::counted(b" name=", name as u64);
-    say::counted(b" steps=", steps as u64);
+fn say_position(rt: &impl Print, name: u32, steps: usize) -> Result<()> {
+    say::counted(rt, b" name=", name as u64)?;
+    say::counted(rt, b" steps=", steps as u64)
 }
 
 // Prints what the line at a place is read as; the place after it.
-fn one(text: &[u8], at: usize) -> usize
+fn one(rt: &impl Print, text: &[u8], at: usize) -> Result<usize>
     requires { at < length text.now }
-    ensures { (at < result) × (result ≤ length text.now) }
+    ensures { IfOk result (λ next. (at < next) × (next ≤ length text.now)) }
 {
     match derivation::rule_line::line_at(text, at) {
         LineRead::Position {
@@ -41,9 +43,9 @@ fn one(text: &[u8], at: usize) -> usize
             steps,
             next,
         } => {
-            say_kind(kind);
-            say_position(name, steps);
-            next
+            say_kind(rt, kind)?;
+            say_position(rt, name, steps)?;
+            Ok(next)
         }
         LineRead::Split {
             name,
@@ -53,50 +55,51 @@ fn one(text: &[u8], at: usize) -> usize
             many,
             next,
         } => {
-            say::word(b"SPLITC");
-            say_position(name, steps);
-            say::counted(b" names=", many as u64);
-            next
+            say::word(rt, b"SPLITC")?;
+            say_position(rt, name, steps)?;
+            say::counted(rt, b" names=", many as u64)?;
+            Ok(next)
         }
         LineRead::Footer {
             names: _,
             many,
             next,
         } => {
-            say::counted(b"FINAL names=", many as u64);
-            next
+            say::counted(rt, b"FINAL names=", many as u64)?;
+            Ok(next)
         }
         LineRead::Malformed => {
-            say::word(b"10");
-            texts::after_line(text, at)
+            say::word(rt, b"10")?;
+            Ok(texts::after_line(text, at))
         }
-        LineRead::Heading { next: _ } => texts::after_line(text, at),
+        LineRead::Heading { next: _ } => Ok(texts::after_line(text, at)),
     }
 }
 
 // The same, behind the line's number and before an LF.
-fn numbered(text: &[u8], at: usize, line: u64) -> usize
+fn numbered(rt: &impl Print, text: &[u8], at: usize, line: u64) -> Result<usize>
     requires { at < length text.now }
-    ensures { (at < result) × (result ≤ length text.now) }
+    ensures { IfOk result (λ next. (at < next) × (next ≤ length text.now)) }
 {
-    say::counted(b"line ", line);
-    say::word(b": ");
-    let next = one(text, at);
-    say::word(b"\n");
-    next
+    say::counted(rt, b"line ", line)?;
+    say::word(rt, b": ")?;
+    let next = one(rt, text, at)?;
+    say::word(rt, b"\n")?;
+    Ok(next)
 }
 
-fn each(text: &[u8]) {
+fn each(rt: &impl Print, text: &[u8]) -> Result<()> {
     let mut at: usize = 0;
     let mut line: u64 = 1;
     while at < text.len() {
-        at = numbered(text, at, line);
+        at = numbered(rt, text, at, line)?;
         line += 1;
     }
+    Ok(())
 }
 
-pub fn run() {
+pub fn run(rt: &(impl Files + Print)) -> Result<()> {
     let mut buffer = io::large_buffer();
-    let n = say::load(b"lines", &mut buffer);
-    each(&buffer[..n]);
+    let n = say::load(rt, b"lines", &mut buffer);
+    each(rt, &buffer[..n])
 }

@@ -1,5 +1,6 @@
 // Runs the cases of data/ on the text layer and prints each answer: derivation lines, headings, problems and refused lines.
 #![tactic(auto)]
+
 mod echo;
 mod headings;
 mod jobs;
@@ -7,7 +8,9 @@ mod lines;
 mod problems;
 mod refused;
 
-fn main() {
-    lines::run();
-    jobs::run();
+use std::io::Result;
+
+fn main(rt: HostRuntime) -> Result<()> {
+    lines::run(&rt)?;
+    jobs::run(&rt)
 }

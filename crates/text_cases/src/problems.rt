@@ -4,23 +4,22 @@ ghost use Rattle.std.specs.Prelude.{◌≤◌, length};
 use crate::echo;
 use casefile::say;
 use problem::problem_line::read_problem;
+use std::io::Result;
 
-pub fn one(name: &[u8], text: &[u8], rows: &mut [u32])
+pub fn one(rt: &impl Print, name: &[u8], text: &[u8], rows: &mut [u32]) -> Result<()>
     requires { 1056 ≤ length rows.old }
 {
-    say::word(name);
+    say::word(rt, name)?;
     if text.len() > 65536 {
-        say::word(b": 2\n");
-        return;
+        return say::word(rt, b": 2\n");
     }
     let read = read_problem(text, rows);
-    say::counted(b": ", read.number as u64);
+    say::counted(rt, b": ", read.number as u64)?;
     if read.number != 0 {
-        say::counted(b" at line ", read.line as u64);
-        say::word(b"\n");
-        return;
+        say::counted(rt, b" at line ", read.line as u64)?;
+        return say::word(rt, b"\n");
     }
-    say::word(b"\n");
+    say::word(rt, b"\n")?;
     let table = read.table;
-    echo::problem(text, table, rows);
+    echo::problem(rt, text, table, rows)
 }

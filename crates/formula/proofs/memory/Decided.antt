@@ -12,7 +12,7 @@ use Rattle.grammar.specs.Bytes.{Bytes}
 use Rattle.grammar.specs.Outcome.{Outcome, done, refused}
 use Rattle.grammar.specs.Problem.{Name, Problem, is_input, given}
 use Rattle.grammar.specs.Valid.{Valid}
-use Rattle.logic.specs.Formula.{Term, Terms, no_terms, term, term_count, Side, all, any, Connective, negation, implies, implied_by, equivalent, junction}
+use Rattle.logic.specs.Formula.{Term, Terms, no_terms, term, term_count, Side, all, any, negation, implies, implied_by, equivalent, junction}
 use Rattle.logic.specs.Formula.{Formula, truth, atom, equal, connective, quantifier, Formulas, no_parts, part, depth}
 use Rattle.logic.specs.Names.{known, closed_but}
 use Rattle.logic.specs.Normal.{mentions_only, is_element_term, elements_only}

@@ -32,9 +32,7 @@ use Rattle.terms.proofs.memory.TermReads.{term_word_goes, term_words_goes}
 use Rattle.reading.specs.memory.FormulaReads.{Found, Told}
 use Rattle.reading.specs.memory.PartReads.{another_follows, PartsTaken, PartsFound, ToldParts}
 use Rattle.reading.specs.declared.read.Read.{Read}
-use Rattle.reading.specs.declared.read.Read.TheVariants as read
 use Rattle.reading.specs.declared.read.PartsRead.{PartsRead}
-use Rattle.reading.specs.declared.read.PartsRead.TheVariants as parts
 
 -- A formula's words go by the indices of its variables.
 

@@ -14,7 +14,7 @@ use Rattle.grammar.specs.Reading.{Reading, word}
 use Rattle.grammar.specs.Problem.{Name}
 use Rattle.logic.specs.Formula.{Side, Formula, quantifier, size}
 use Rattle.logic.specs.Names.{known, besides}
-use Rattle.logic.specs.Limits.{variables, quantifiers}
+use Rattle.logic.specs.Limits.{variables}
 use Rattle.logic.specs.Reading.{read_variable, read_quantifier}
 use Rattle.text.proofs.Found.{word-found}
 use Rattle.text.proofs.FoundBytes.{byte_found}

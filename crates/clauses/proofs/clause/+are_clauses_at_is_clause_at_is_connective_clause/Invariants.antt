@@ -1,6 +1,6 @@
 -- `clause::is_clause_at` goes by the word's kind, `clause::is_connective_clause` by the connective, and `clause::are_clauses_at` through the parts up to the
 -- first that is no clause. The measure is three times the levels, one more for parts and two more for a connective.
-use Prim.Native.Nat.{◌+◌, ◌-◌, ◌*◌, ◌≤◌}
+use Prim.Native.Nat.{◌+◌, ◌*◌, ◌≤◌}
 use mathlib.Core.Path.{◌≡◌}
 use lib.ListN.{length, drop}
 use Rattle.clauses.specs.memory.Clauses.{all_at, clause_at}

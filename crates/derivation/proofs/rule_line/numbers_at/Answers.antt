@@ -1,7 +1,6 @@
 -- `rule_line::numbers_at` reads numbers one by one. The invariant: the list is what was read and the list from here on.
 use mathlib.Core.Path.{sym, ◌∙◌, subst}
 use native.Mathlib.Omega.{arith}
-use Prim.Native.Nat.{◌-◌}
 use Rattle.derivation.specs.memory.RuleLines.{RangedFound, ToldRanged}
 use Rattle.derivation.proofs.LinePlaces.{numbers_first, numbers_refused, numbers_last, numbers_on}
 use Rattle.derivation.proofs.rule_line.numbers_at.Goals as goal

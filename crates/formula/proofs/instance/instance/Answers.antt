@@ -1,6 +1,5 @@
 -- `instance::instance` copies a range with an element for a variable. The invariant: what is made of the rest of the range is still to be stored.
 use native.Mathlib.Omega.{arith}
-use Prim.Native.Nat.{◌-◌}
 use lib.Seq.{slice, length-slice}
 use Rattle.words.proofs.memory.Storing.{ahead_start, ahead_turn, ahead_end, ahead_length, ahead_read}
 use Rattle.formula.proofs.memory.Instances.{words_with-next, words_with-none, length-words_with}

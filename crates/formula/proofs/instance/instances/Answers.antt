@@ -1,7 +1,7 @@
 -- `instance::instances` makes a copy for each element whose flag is set. The invariant: the copies for the elements from the next one on are still to be stored.
 use borrow.Author.Rules.{rules}
 use native.Mathlib.Omega.{arith}
-use Prim.Native.Nat.{◌+◌, ◌-◌, ◌≤◌}
+use Prim.Native.Nat.{◌+◌, ◌≤◌}
 use lib.ListN.{length}
 use lib.Seq.{slice}
 use Rattle.words.proofs.memory.Storing.{ahead_start, ahead_turn, ahead_end, ahead_length, ahead_slice}

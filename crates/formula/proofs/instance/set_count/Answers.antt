@@ -1,7 +1,6 @@
 -- `instance::set_count` counts the flags that are set. The invariant: the count so far with the count of the rest.
 use borrow.Author.Rules.{rules}
 use native.Mathlib.Omega.{arith}
-use Prim.Native.Nat.{◌-◌}
 use Rattle.formula.proofs.memory.Instances.{set_count-set, set_count_unset, set_count-none}
 use Rattle.formula.proofs.instance.set_count.Goals as goal
 use Rattle.formula.proofs.instance.set_count.Goals.{then-flags-i, else-flags-i}

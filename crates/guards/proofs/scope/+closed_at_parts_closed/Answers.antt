@@ -2,7 +2,7 @@
 -- what its kind of word comes to, and the loop's invariant says that the answer is that of the parts from here.
 use borrow.Author.Rules.{rules}
 use native.Mathlib.Omega.{arith}
-use Prim.Native.Nat.{ℕ, ◌-◌}
+use Prim.Native.Nat.{ℕ}
 use mathlib.Core.Path.{◌≡◌, refl}
 use lib.ListN.{length, drop}
 use Rattle.guards.proofs.memory.Flags.{closed_no_level, closed-beyond, closed-truth, closed-term, closed-atom, closed-equal, closed-connective, closed-quantifier}

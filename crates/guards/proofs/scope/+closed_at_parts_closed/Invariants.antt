@@ -1,6 +1,6 @@
 -- `scope::closed_at` and `scope::parts_closed` call each other; levels fall, and a list of parts counts as half a level. Each arm hands over
 -- what its kind of word comes to, and the loop's invariant says that the answer is that of the parts from here.
-use Prim.Native.Nat.{◌+◌, ◌-◌, ◌≤◌}
+use Prim.Native.Nat.{◌+◌, ◌≤◌}
 use mathlib.Core.Path.{◌≡◌}
 use lib.ListN.{length, drop}
 use Rattle.guards.specs.memory.Flags.{all_closed_at}

@@ -1,5 +1,5 @@
 -- `names::climbs` goes over new names. The invariant: whether all climb, and to where, is whether the rest do from the greatest so far.
-use Prim.Native.Nat.{◌+◌, ◌-◌, ◌≤◌}
+use Prim.Native.Nat.{◌+◌, ◌≤◌}
 use mathlib.Core.Path.{◌≡◌}
 use Rattle.demands.specs.Theory.{climbing, highest}
 use Rattle.text.specs.memory.Numbers.{numbers_at}

@@ -1,6 +1,6 @@
 -- `names::index_of` finds a name. The invariant: what was passed and the index in the rest are the index in the whole.
 use native.Mathlib.Omega.{arith}
-use Prim.Native.Nat.{ℕ, ◌+◌, ◌-◌}
+use Prim.Native.Nat.{ℕ, ◌+◌}
 use mathlib.Core.Path.{◌≡◌, ap}
 use mathlib.Core.List.{List, ◌∷◌}
 use lib.ListN.{drop, get_or}

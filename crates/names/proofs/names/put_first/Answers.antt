@@ -1,6 +1,5 @@
 -- `names::put_first` stores the names one by one. The invariant: those passed are stored, and the others as they were.
 use native.Mathlib.Omega.{arith}
-use Prim.Native.Nat.{◌-◌}
 use mathlib.Core.Path.{◌≡◌, refl, ◌∙◌}
 use lib.ListN.{length-set}
 use Rattle.names.proofs.NameLists.{first_more}

@@ -1,6 +1,5 @@
 -- `cursor::emit_all` prints byte by byte. The invariant: the bytes from here on remain.
 use native.Mathlib.Omega.{arith}
-use Prim.Native.Nat.{◌-◌}
 use mathlib.Core.Path.{refl, ◌∙◌}
 use lib.ListN.{drop_of_length-le}
 use Rattle.printing.proofs.memory.Cursor.{from_byte, remains_all, remains_then, remains_nothing}

@@ -1,6 +1,6 @@
 -- `print::emit_clause` prints what stands before the parts, the parts, and what stands behind them; `print::emit_parts` the first part, and then each
 -- other behind a comma. The measure is twice the levels, and one more for parts. The loop's invariant: the parts from here on remain.
-use Prim.Native.Nat.{◌+◌, ◌-◌, ◌≤◌}
+use Prim.Native.Nat.{◌+◌, ◌≤◌}
 use mathlib.Core.Path.{◌≡◌}
 use lib.ListN.{length, drop}
 use Rattle.grammar.specs.Bytes.{followed}

@@ -1,5 +1,5 @@
 -- `print::emit_lines` prints one clause after the other, with an LF behind each. The invariant: the lines from here on remain.
-use Prim.Native.Nat.{◌-◌, ◌≤◌}
+use Prim.Native.Nat.{◌≤◌}
 use mathlib.Core.Path.{◌≡◌}
 use lib.ListN.{length, drop}
 use Rattle.printing.specs.memory.ClauseText.{clause_lines}

@@ -1,6 +1,6 @@
 -- `problem_line::read_problem` reads line after line. The invariant: what the text is, is what its rest makes of the part that is read so far.
 use native.Mathlib.Omega.{arith}
-use Prim.Native.Nat.{ℕ, ◌-◌}
+use Prim.Native.Nat.{ℕ}
 use mathlib.Core.Path.{◌≡◌, refl, subst, ◌∙◌}
 use mathlib.Core.List.{List}
 use lib.ListN.{length}

@@ -1,6 +1,6 @@
 -- `rows::tuple_at` reads one element after another. The invariant: the elements so far, and what is kept of them.
 use native.Mathlib.Omega.{arith}
-use Prim.Native.Nat.{◌-◌, ◌<◌}
+use Prim.Native.Nat.{◌<◌}
 use mathlib.Core.Path.{◌≡◌, sym, subst, ◌∙◌}
 use lib.ListN.{length}
 use Rattle.text.proofs.FoundBytes.{byte_inside}

@@ -1,6 +1,6 @@
 -- `rows::tuples_at` reads one tuple after another. The invariant: the tuples so far, and what is kept of them in memory.
 use native.Mathlib.Omega.{arith}
-use Prim.Native.Nat.{◌-◌, ◌<◌}
+use Prim.Native.Nat.{◌<◌}
 use mathlib.Core.Path.{◌≡◌, refl, sym, subst, ◌∙◌}
 use lib.ListN.{length, drop}
 use Rattle.grammar.specs.Bytes as bytes

@@ -26,7 +26,6 @@ use Rattle.reading.proofs.memory.PartReads.{parts_few, parts_first, parts_refuse
 use Rattle.reading.proofs.memory.Connectives.{shrinks_formula, none_within, connective-none, connective-refused, connective_open, connective-found}
 use Rattle.reading.proofs.memory.Quantifiers.{guarded-refused, guarded_open, guarded-within, guarded_bodiless, guarded-found, guarded_by, guarded-few, quantifier_nameless, quantifier_open, bracket_within, quantifier-refused, quantifier-found}
 use Rattle.reading.proofs.memory.Levels.{no_level, refused_behind, opens_so, leaf_read, sign_read}
-use borrow.Fn.PlainCycle.{is, and}
 use Rattle.reading.proofs.read.+read_connective_read_formula_read_guarded_read_parts_read_quantifier.Goals as goal
 use Rattle.reading.proofs.read.+read_connective_read_formula_read_guarded_read_parts_read_quantifier.Goals.{read_connective-After-none_follow, read_connective-After-read_parts, read_connective-In-Done, read_formula-After-opening_at, read_guarded-After-read_formula, read_guarded-After-read_formula-in-Done, read_guarded-Else-not-begins_at, read_guarded-In-Done, read_parts-After-read_formula, read_parts-Else-not-another_follows, read_parts-In-Done, read_quantifier-After-read_guarded, read_quantifier-Else-peek-ne91, read_quantifier-In-At, read_quantifier-In-Done}
 

@@ -1,5 +1,4 @@
 -- `table::listed` looks at one number after another. The invariant: whether it is among them is whether it is among those that are left.
-use Prim.Native.Nat.{◌-◌}
 use mathlib.Core.Path.{refl, sym, ◌∙◌}
 use Rattle.table.proofs.Tables.{among_none, among-beyond, among-here, among_next}
 use Rattle.table.proofs.table.listed.Goals as goal

@@ -1,7 +1,7 @@
 -- `byte::begins_at` compares a word byte by byte. The invariant: whether the word stands there is whether its rest stands further on.
 use native.Mathlib.Nat.{add-zero}
 use native.Mathlib.Omega.{arith}
-use Prim.Native.Nat.{◌+◌, ◌-◌}
+use Prim.Native.Nat.{◌+◌}
 use mathlib.Core.Path.{◌≡◌, sym, ◌∙◌}
 use lib.ListN.{drop}
 use Rattle.text.proofs.Places.{begins-same, begins_other, begins-short, begins_all}

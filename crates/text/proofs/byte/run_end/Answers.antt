@@ -1,6 +1,5 @@
 -- `byte::run_end` finds the place after a run. The invariant: what was passed and the run from here are the run from the first place.
 use native.Mathlib.Omega.{arith}
-use Prim.Native.Nat.{◌-◌}
 use mathlib.Core.Path.{refl, sym, ap, ◌∙◌}
 use lib.ListN.{length}
 use Rattle.text.specs.memory.Classes.{in_class}

@@ -1,6 +1,5 @@
 -- `line::line_end` finds the next LF. The invariant: what was passed and the line from here are the line from the first place.
 use native.Mathlib.Omega.{arith}
-use Prim.Native.Nat.{◌-◌}
 use mathlib.Core.Path.{refl}
 use Rattle.text.proofs.Places.{line_size-more, line_size-stop, line_size-beyond}
 use Rattle.text.proofs.line.line_end.Goals as goal

@@ -1,6 +1,5 @@
 -- `line::lines_end` passes the first lines. The invariant: what was passed and the lines still to be passed from here are all of them.
 use native.Mathlib.Omega.{arith}
-use Prim.Native.Nat.{◌-◌}
 use mathlib.Core.Path.{sym}
 use lib.ListN.{drop, get_or}
 use Rattle.grammar.specs.Lines.{is_lf}

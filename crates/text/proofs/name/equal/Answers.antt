@@ -1,6 +1,5 @@
 -- `name::equal` compares two names byte by byte. The invariant: whether they are the same is whether their rests are.
 use native.Mathlib.Omega.{arith}
-use Prim.Native.Nat.{◌-◌}
 use mathlib.Core.Path.{refl, sym, ◌∙◌}
 use Rattle.text.proofs.Parts.{same_length, same_on, same_off, same_end}
 use Rattle.text.proofs.name.equal.Goals as goal

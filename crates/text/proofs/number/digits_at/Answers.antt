@@ -1,6 +1,5 @@
 -- `number::digits_at` passes digits one by one. The invariant: what is read from here on behind the value so far is the number.
 use mathlib.Core.Path.{sym, ◌∙◌}
-use Prim.Native.Nat.{◌-◌}
 use Rattle.grammar.specs.Bytes.{is_digit}
 use Rattle.text.proofs.Places.{span-stop, span-beyond}
 use Rattle.text.proofs.NumberPlaces.{digits-first, digits_on, digits-stop}

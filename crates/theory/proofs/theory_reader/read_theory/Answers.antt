@@ -1,6 +1,6 @@
 -- `theory_reader::read_theory` reads line after line. The invariant: what the text is, is what its rest makes of the formulas read so far, which are in memory.
 use native.Mathlib.Omega.{arith}
-use Prim.Native.Nat.{ℕ, ◌+◌, ◌-◌}
+use Prim.Native.Nat.{ℕ, ◌+◌}
 use mathlib.Core.Path.{◌≡◌, refl, sym, ◌∙◌}
 use mathlib.Core.List.{List, []}
 use mathlib.Core.Bool.{Bool, true, false}

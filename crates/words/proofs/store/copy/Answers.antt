@@ -1,6 +1,5 @@
 -- `store::copy` copies a range to a later place. The invariant: what is left of the range is still to be stored.
 use native.Mathlib.Omega.{arith}
-use Prim.Native.Nat.{◌-◌}
 use lib.Seq.{length-slice}
 use Rattle.words.proofs.memory.Storing.{ahead_start, ahead_turn, ahead_end, ahead_length, ahead_read, slice_next, slice_none}
 use Rattle.words.proofs.store.copy.Goals as goal

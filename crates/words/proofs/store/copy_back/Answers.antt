@@ -1,6 +1,6 @@
 -- `store::copy_back` copies a range to the front. The invariant: what is left of the range is still to be stored, and the range is as it was.
 use native.Mathlib.Omega.{arith}
-use Prim.Native.Nat.{◌+◌, ◌-◌}
+use Prim.Native.Nat.{◌+◌}
 use mathlib.Core.Path.{refl}
 use Rattle.words.proofs.memory.Storing.{ahead_start, ahead_turn, ahead_end, ahead_length, behind_read, behind_word, slice_next, slice_none}
 use Rattle.words.proofs.store.copy_back.Goals as goal

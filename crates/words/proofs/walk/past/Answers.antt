@@ -1,6 +1,5 @@
 -- `walk::past` finds the place after some formulas. The invariant: from here, with the parts that are still pending, the same place is reached.
 use native.Mathlib.Omega.{arith}
-use Prim.Native.Nat.{◌-◌}
 use mathlib.Core.Path.{◌≡◌, refl, ap, ◌∙◌}
 use lib.ListN.{drop}
 use Rattle.words.specs.memory.Kinds.{skip}
