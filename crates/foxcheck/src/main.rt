@@ -1,5 +1,6 @@
 // Checks the derivation of the folder that it is run in, and prints the answer.
 #![tactic(auto)]
+
 use std::io::Result;
 
 fn main(rt: HostRuntime) -> Result<()> {

@@ -11,7 +11,7 @@ use lib.ListN.{length, take, drop, replicate}
 use lib.Seq.{drop_at}
 use borrow.Author.Tests.{le-leb, lt-leb, leb-true}
 use Rattle.grammar.specs.Sizes.{text_size, work_size}
-use Rattle.grammar.specs.Bytes.{Bytes, same}
+use Rattle.grammar.specs.Bytes.{Bytes}
 use Rattle.grammar.specs.Outcome.{done, refused, provided, ◌>>◌}
 use Rattle.grammar.specs.Lines.{Refusal, refusal, Judged}
 use Rattle.grammar.proofs.Laws.{and_left, and_right}

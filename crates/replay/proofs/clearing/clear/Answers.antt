@@ -1,6 +1,5 @@
 -- `clearing::clear` zeroes numbers one by one. The invariant: those passed are zero, and the others as they were.
 use native.Mathlib.Omega.{arith}
-use Prim.Native.Nat.{◌-◌}
 use mathlib.Core.Path.{◌≡◌, refl, ◌∙◌}
 use lib.ListN.{length-set}
 use Rattle.replay.proofs.Cleared.{cleared_more}
