@@ -1,5 +1,5 @@
-// The derivation's reader, which holds the text, its place in it and the number of the line that begins there. The borrow checker covers no function
-// over such a struct: `reader_at`, `next_line` and `read_line` are proved by hand, and the work is left to `numbered_at`.
+// The derivation's reader, which holds the text, its place in it and the number of the line that begins there. What a line is, is left to
+// `numbered_at`, over the three apart.
 ghost use Rattle.std.specs.Prelude.{◌≡◌, ◌≤◌, length};
 ghost use Rattle.derivation.specs.memory.RuleLines.{heading_of, Awaited, ToldNumbered};
 
@@ -66,7 +66,7 @@ pub fn next_line<'a>(reader: Reader<'a>) -> Numbered
     numbered_at(reader.text, reader.at, reader.line)
 }
 
-// The same for a caller that holds the text, the place and the number apart: it is covered, having no reader itself.
+// The same for a caller that holds the text, the place and the number apart.
 pub fn read_line(text: &[u8], at: usize, line: u32) -> Numbered
     requires { at ≤ length text.now }
     ensures { ToldNumbered text.now at line result }

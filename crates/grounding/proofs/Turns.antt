@@ -27,7 +27,7 @@ use Rattle.steps.specs.memory.Steps.{rows_in, held_in, Few, ToldStep}
 use Rattle.steps.specs.declared.live.Live.{Live}
 use Rattle.steps.specs.declared.live.Layout.{Layout}
 use Rattle.steps.specs.declared.live.Step.{Step}
-use Rattle.steps.specs.declared.live.Step.TheVariants as step_of_lem
+use Rattle.steps.specs.declared.live.Step.TheVariants as step_kind
 use Rattle.grounding.specs.memory.Lines.{JudgedIn, line_in, GoingIn, ToldMoved, ToldHeaded, Finished, moved_by}
 use Rattle.grounding.specs.declared.heading.Headed.TheVariants as headed
 use Rattle.grounding.specs.declared.replaying.Moved.TheVariants as moved
@@ -46,8 +46,8 @@ module _ (table : Table) (first : Held) (layout : Layout) (old : List ℕ) (m : 
   pub stepped_line : {l : RuleLine} {next : ℕ} → Taken read_line text at (step l) next → (r : Step) (work : List ℕ) → ToldStep (stepped_in table (rows_in layout old) m l) layout old r work
       → ToldMoved table (rows_in layout old) first layout old m text at line (moved_by r next told) work
   unfolding derivation_line
-  stepped_line t (step_of_lem.Done live) work s = (record { is = λ rules. rw (t.is, s.is); after = t.after; within = t.within }, (s.few, s.rows))
-  stepped_line t (step_of_lem.Refused number) work s = ((λ rules. rw (t.is, s)), same)
+  stepped_line t (step_kind.Done live) work s = (record { is = λ rules. rw (t.is, s.is); after = t.after; within = t.within }, (s.few, s.rows))
+  stepped_line t (step_kind.Refused number) work s = ((λ rules. rw (t.is, s)), same)
 
   pub footer_line_lem : (names many : ℕ) {next : ℕ} → Taken read_line text at (footer (numbers_at text names many)) next → names + many ≤ next
       → ToldMoved table (rows_in layout old) first layout old m text at line (moved.Footer names many next) old

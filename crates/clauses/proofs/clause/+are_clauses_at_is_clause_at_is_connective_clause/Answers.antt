@@ -7,7 +7,7 @@ use mathlib.Core.Bool.{Bool}
 use lib.ListN.{drop}
 use Rattle.clauses.specs.memory.Clauses.{all_at, clause_at, clause_by}
 use Rattle.words.specs.declared.word.Kind.{Kind}
-use Rattle.clauses.proofs.memory.Clauses.{all_none, all_more, all_stop, negation_other, negation_one, junction_all, junction-none, junction_some, connective_never, clause_no_level, clause_beyond, clause_told}
+use Rattle.clauses.proofs.memory.Clauses.{all_none, all_more, all_stop, negation_other, negation_one, junction_all, connective_never, clause_no_level, clause_beyond, clause_told}
 use Rattle.clauses.proofs.clause.+are_clauses_at_is_clause_at_is_connective_clause.Goals as goal
 use Rattle.clauses.proofs.clause.+are_clauses_at_is_clause_at_is_connective_clause.Goals.{is_clause_at-After-kind_of}
 
@@ -68,10 +68,6 @@ pub is_connective_clause-returns-then-every : goal.is_connective_clause-returns-
 is_connective_clause-returns-then-every t c =
     junction_all c.args.table (clause_at c.args.table c.args.levels) _ c.args.count (drop c.args.at c.args.work.now) _ c.in-Junction.is c.if-every.true
 
-pub is_connective_clause-returns-then-count-eq0 : goal.is_connective_clause-returns-then-count-eq0
-is_connective_clause-returns-then-count-eq0 t c =
-    junction-none c.args.table (clause_at c.args.table c.args.levels) _ c.args.count (drop c.args.at c.args.work.now) _ c.in-Junction.is c.if-every.false c.if-count-eq0.true
-
 pub is_connective_clause-returns-else-count-ne1 : goal.is_connective_clause-returns-else-count-ne1
 is_connective_clause-returns-else-count-ne1 t c =
     c.is_ground_atom_at.ensures ∙ negation_one c.args.table (clause_at c.args.table c.args.levels) _ c.args.count (drop c.args.at c.args.work.now) c.in-Negation.is c.if-count-ne1.false
@@ -87,7 +83,3 @@ is_connective_clause-returns-in-ImpliedBy t c =
 pub is_connective_clause-returns-in-Equivalent : goal.is_connective_clause-returns-in-Equivalent
 is_connective_clause-returns-in-Equivalent t c =
     connective_never c.args.table (clause_at c.args.table c.args.levels) c.args.count (drop c.args.at c.args.work.now) _ _ c.in-Equivalent.is refl
-
-pub is_connective_clause-returns-else-count-eq0 : goal.is_connective_clause-returns-else-count-eq0
-is_connective_clause-returns-else-count-eq0 t c =
-    junction_some c.args.table (clause_at c.args.table c.args.levels) _ c.args.count (drop c.args.at c.args.work.now) _ c.in-Junction.is c.if-every.false c.if-count-eq0.false _ c.are_clauses_at.ensures
