@@ -10,29 +10,27 @@ use Rattle.grammar.specs.Bytes.{same}
 use Rattle.text.specs.memory.Numbers.{numbers_at}
 use Rattle.clauses.specs.memory.Clauses.{all_at, clause_at}
 use Rattle.names.proofs.NameLists.{region_length}
+use Rattle.steps.specs.declared.live.Live.{Live}
 use Rattle.steps.specs.memory.Held.{Held, held, end_in}
 use Rattle.grounding.proofs.ending.end_number.Goals as goal
 use Rattle.grounding.proofs.ending.end_number.Goals.{After-are_clauses_at, Else-not-are_listed, Start}
 
--- what memory holds, and the names that the footer lists
-module _ (start : Start) where
-  abbrev memory : Held
-  memory = held (take start.args.live.full start.args.work.now) (take start.args.live.count (drop start.args.start start.args.work.now)) start.args.live.top start.args.live.ended
+-- what memory holds
+abbrev memory : Live → ℕ → List ℕ → Held
+memory live start work = held (take live.full work) (take live.count (drop start work)) live.top live.ended
 
-  abbrev final : List ℕ
-  final = numbers_at start.args.text.now start.args.names start.args.many
-
-  words_long : length memory.words ≡ start.args.live.full
-  words_long = length-take-le start.args.live.full start.args.work.now (omega (arith, start.requires))
+words_long : (c : Start) → length (memory c.args.live c.args.start c.args.work.now).words ≡ c.args.live.full
+words_long c = length-take-le c.args.live.full c.args.work.now (omega (arith, c.requires))
 
 -- the footer lists the live names
-listed : (c : Else-not-are_listed) → same ((numbers_at c.args.text.now c.args.names c.args.many)) ((held (take c.args.live.full c.args.work.now) (take c.args.live.count (drop c.args.start c.args.work.now)) c.args.live.top c.args.live.ended)).names ≡ true
+listed : (c : Else-not-are_listed) → same (numbers_at c.args.text.now c.args.names c.args.many) (memory c.args.live c.args.start c.args.work.now).names ≡ true
 listed c = sym c.are_listed.ensures ∙ c.if-not-are_listed.false
 
 -- whether the final formulas are clauses
-module _ (c : After-are_clauses_at) where
-  clauses : (b : Bool) → c.are_clauses_at.result ≡ b → all_at (clause_at c.args.table 32) (length ((held (take c.args.live.full c.args.work.now) (take c.args.live.count (drop c.args.start c.args.work.now)) c.args.live.top c.args.live.ended)).names) ((held (take c.args.live.full c.args.work.now) (take c.args.live.count (drop c.args.start c.args.work.now)) c.args.live.top c.args.live.ended)).words ≡ b
-  clauses b e = rw (region_length c.args.work.now c.args.start c.args.live.count (omega (arith, c.requires))) (subst (λ (x : Bool). x ≡ b) c.are_clauses_at.ensures e)
+clauses : (c : After-are_clauses_at) (b : Bool) → c.are_clauses_at.result ≡ b
+    → let m = memory c.args.live c.args.start c.args.work.now in
+    all_at (clause_at c.args.table 32) (length m.names) m.words ≡ b
+clauses c b e = rw (region_length c.args.work.now c.args.start c.args.live.count (omega (arith, c.requires))) (subst (λ (x : Bool). x ≡ b) c.are_clauses_at.ensures e)
 
 pub returns-then-not-are_listed : goal.returns-then-not-are_listed
 unfolding end_in

@@ -3,37 +3,25 @@ use native.Mathlib.Omega.{arith}
 use Prim.Native.Nat.{◌+◌, ◌-◌, ◌≤◌}
 use lib.ListN.{length}
 use Rattle.grammar.specs.Problem.{read_name}
-use Rattle.terms.specs.memory.Bindings.{bound_in}
 use Rattle.terms.specs.memory.Entries.{setting_of, memory}
-use Rattle.terms.specs.memory.TermReads.{NameTaken, TermsFound, read_term_list}
 use Rattle.terms.proofs.memory.Signature.{domain_table, position_table}
-use Rattle.terms.proofs.memory.TermReads.{word-done, word_malformed, terms_done, terms_malformed}
+use Rattle.terms.proofs.memory.TermReads.{word_malformed, terms_malformed}
 use Rattle.reading.proofs.memory.Leaves.{atom_nameless, atom-refused, atom-found}
 use Rattle.reading.proofs.leaf.read_atom.Goals as goal
-use Rattle.reading.proofs.leaf.read_atom.Goals.{After-find-index, In-At, In-Done}
-
--- the predicate's name
-module _ (named : In-At) where
-  name-taken : NameTaken (read_name 5) named.args.text.now named.args.at named.in-At.end
-  name-taken = word-done (read_name 5) _ _ _ named.predicate_end.ensures _ named.in-At.is
-
--- the terms that were read
-module _ (found : In-Done) where
-  terms_found : TermsFound found.args.text.now found.args.table.domain (bound_in found.args.text.now found.args.scope) read_term_list found.in-At.end (memory found.args.names.now found.args.work.now) (found.args.to + 1) found.in-Done.next found.in-Done.count found.in-Done.named (memory found.read_arguments.new.names found.read_arguments.new.work)
-  terms_found = terms_done _ _ _ _ _ _ _ _ _ found.read_arguments.ensures _ _ _ found.in-Done.is
+use Rattle.reading.proofs.leaf.read_atom.Goals.{After-find-index}
 
 -- how far the terms reach, and where the predicate stands in the table
 bounds : (c : After-find-index)
     → (c.in-At.end + c.in-Done.count + (c.in-Done.count - 1) ≤ c.in-Done.next) × (c.in-Done.next ≤ length c.args.text.now) × (c.find-index.result ≤ c.args.table.count)
 bounds c =
-    let terms = (let terms_found : TermsFound c.args.text.now c.args.table.domain (bound_in c.args.text.now c.args.scope) read_term_list c.in-At.end (memory c.args.names.now c.args.work.now) (c.args.to + 1) c.in-Done.next c.in-Done.count c.in-Done.named (memory c.read_arguments.new.names c.read_arguments.new.work) = terms_done _ _ _ _ _ _ _ _ _ c.read_arguments.ensures _ _ _ c.in-Done.is in terms_found) in
+    let terms = c.in-Done.ensures in
     (terms.after, terms.within, rw c.find-index.ensures (position_table c.args.problem.now c.args.table _))
 
 pub read_arguments-requires : goal.read_arguments-requires
-read_arguments-requires c = omega (arith, name-taken (goal.at.read_arguments-requires c).In-At)
+read_arguments-requires c = omega (arith, c.in-At.ensures)
 
 pub overflow_sub-size : goal.overflow_sub-size
-overflow_sub-size c = omega (arith, name-taken (goal.at.overflow_sub-size c).In-At)
+overflow_sub-size c = omega (arith, c.in-At.ensures)
 
 pub overflow_cast-count : goal.overflow_cast-count
 overflow_cast-count c = omega (arith, bounds (goal.at.overflow_cast-count c).After-find-index)
@@ -56,11 +44,11 @@ overflow_add-result c = omega (arith, bounds (goal.at.overflow_add-result c).Aft
 pub returns-in-Done : goal.returns-in-Done
 returns-in-Done c =
     rw (c.set_number.ensures, c.atom_facts.ensures, c.find-index.ensures)
-    (atom-found _ _ _ _ _ (name-taken (goal.at.returns-in-Done c).In-At) _ _ _ _ _ _ (domain_table _ _) (terms_found (goal.at.returns-in-Done c).In-Done))
+    (atom-found _ _ _ _ _ c.in-At.ensures _ _ _ _ _ _ (domain_table _ _) c.in-Done.ensures)
 
 pub returns-in-Malformed-read_arguments : goal.returns-in-Malformed-read_arguments
 returns-in-Malformed-read_arguments c =
-    atom-refused (setting_of c.args.text.now c.args.scope c.args.problem.now c.args.table) _ (memory c.args.names.now c.args.work.now) c.args.to _ (name-taken (goal.at.returns-in-Malformed-read_arguments c).In-At)
+    atom-refused (setting_of c.args.text.now c.args.scope c.args.problem.now c.args.table) _ (memory c.args.names.now c.args.work.now) c.args.to _ c.in-At.ensures
     (terms_malformed _ _ _ _ _ _ _ _ _ c.read_arguments.ensures c.in-Malformed-read_arguments.is)
 
 pub returns-in-Malformed : goal.returns-in-Malformed

@@ -13,21 +13,16 @@ use Rattle.logic.specs.Reading.{read_variable, read_quantifier, read_formula}
 use Rattle.words.specs.memory.Stored.{side_of, connective_of}
 use Rattle.terms.specs.memory.Lists.{up_to}
 use Rattle.terms.specs.memory.Entries.{Setting, setting_of, Memory, memory}
-use Rattle.terms.specs.memory.TermReads.{NameTaken}
-use Rattle.terms.proofs.memory.TermReads.{word-done, word_malformed}
+use Rattle.terms.proofs.memory.TermReads.{word_malformed}
 use Rattle.reading.specs.declared.opening.Opening.{Opening}
 use Rattle.reading.specs.memory.Openings.{read_connective, ToldOpening}
-use Rattle.reading.specs.memory.FormulaReads.{Found, Told}
-use Rattle.reading.specs.memory.PartReads.{none_follow, another_follows, ToldParts, GuardedFound, ToldGuarded, read_guarded}
-use Rattle.reading.specs.declared.read.Read.{Read}
-use Rattle.reading.specs.declared.read.PartsRead.{PartsRead}
-use Rattle.reading.specs.declared.read.GuardedRead.{GuardedRead}
-use Rattle.reading.proofs.memory.PartReads.{parts_few, parts_first, parts_refused, parts_last, parts_on, some_more, formula_by_lem, parts_by_lem}
+use Rattle.reading.specs.memory.PartReads.{none_follow, another_follows, read_guarded}
+use Rattle.reading.proofs.memory.PartReads.{parts_few, parts_first, parts_refused, parts_last, parts_on, some_more}
 use Rattle.reading.proofs.memory.Connectives.{shrinks_formula, none_within, connective-none, connective-refused, connective_open, connective-found}
-use Rattle.reading.proofs.memory.Quantifiers.{guarded-refused, guarded_open, guarded-within, guarded_bodiless, guarded-found, guarded_by, guarded-few, quantifier_nameless, quantifier_open, bracket_within, quantifier-refused, quantifier-found}
+use Rattle.reading.proofs.memory.Quantifiers.{guarded-refused, guarded_open, guarded-within, guarded_bodiless, guarded-found, guarded-few, quantifier_nameless, quantifier_open, bracket_within, quantifier-refused, quantifier-found}
 use Rattle.reading.proofs.memory.Levels.{no_level, refused_behind, opens_so, leaf_read, sign_read}
 use Rattle.reading.proofs.read.+read_connective_read_formula_read_guarded_read_parts_read_quantifier.Goals as goal
-use Rattle.reading.proofs.read.+read_connective_read_formula_read_guarded_read_parts_read_quantifier.Goals.{read_connective-After-none_follow, read_connective-After-read_parts, read_connective-In-Done, read_formula-After-opening_at, read_guarded-After-read_formula, read_guarded-After-read_formula-in-Done, read_guarded-Else-not-begins_at, read_guarded-In-Done, read_parts-After-read_formula, read_parts-Else-not-another_follows, read_parts-In-Done, read_quantifier-After-read_guarded, read_quantifier-Else-peek-ne91, read_quantifier-In-At, read_quantifier-In-Done}
+use Rattle.reading.proofs.read.+read_connective_read_formula_read_guarded_read_parts_read_quantifier.Goals.{read_connective-After-none_follow, read_connective-After-read_parts, read_connective-In-Done, read_formula-After-opening_at, read_guarded-After-read_formula, read_guarded-After-read_formula-in-Done, read_guarded-Else-not-begins_at, read_parts-After-read_formula, read_parts-Else-not-another_follows, read_quantifier-After-read_guarded, read_quantifier-Else-peek-ne91, read_quantifier-In-At}
 
 -- A connective.
 -- whether a part follows
@@ -40,28 +35,21 @@ module _ (t : ℕ) (asked : read_connective-After-none_follow t) where
 
 -- the parts are read
 module _ (t : ℕ) (read : read_connective-After-read_parts t) where
-  abbrev parts_left : Memory
-  parts_left = memory read.read_parts.new.names read.read_parts.new.work
-
   some_follow : none_follow (connective_of read.args.sign) (drop read.args.at read.args.text.now) ≡ false
-  some_follow = (let none_follows : (b : Bool) → read.none_follow.result ≡ b → none_follow (connective_of read.args.sign) (drop read.args.at read.args.text.now) ≡ b = λ b e. sym read.none_follow.ensures ∙ e in none_follows) false read.if-none_follow.false
-
-  connective_parts : (r : PartsRead) → read.read_parts.result ≡ r
-      → ToldParts (up_to read.further_parts-most.result (read_formula read.args.levels)) ((setting_of read.args.text.now read.args.scope read.args.problem.now read.args.table)) read.args.at (memory read.args.names.now read.args.work.now) (read.args.to + 1) r parts_left
-  connective_parts = parts_by_lem _ _ _ _ _ _ _ read.read_parts.ensures
+  some_follow = sym read.none_follow.ensures ∙ read.if-none_follow.false
 
   -- a connective is refused as they are
   connective_parts_refused : (number : ℕ)
       → up_to read.further_parts-most.result (read_formula read.args.levels) (drop read.args.at read.args.text.now) ≡ refused number
       → read_connective (read_formula read.args.levels) (connective_of read.args.sign) (drop read.args.at read.args.text.now) ≡ refused number
   connective_parts_refused =
-      connective-refused ((setting_of read.args.text.now read.args.scope read.args.problem.now read.args.table)) (read_formula read.args.levels) (connective_of read.args.sign) read.args.at (shrinks_formula read.args.levels) some_follow _ read.further_parts-most.ensures
+      connective-refused (setting_of read.args.text.now read.args.scope read.args.problem.now read.args.table) (read_formula read.args.levels) (connective_of read.args.sign) read.args.at (shrinks_formula read.args.levels) some_follow _ read.further_parts-most.ensures
 
 -- the parts that were read: how many they are, and how far they reach
 module _ (t : ℕ) (found : read_connective-In-Done t) where
   connective_parts_bounds : (found.in-Done.count ≤ found.in-Done.size) × (found.args.at + found.in-Done.size ≤ found.in-Done.next) × (found.in-Done.next ≤ length found.args.text.now) × (length found.args.text.now ≤ 65536)
   connective_parts_bounds =
-      let parts = (let connective_parts : (r : PartsRead) → found.read_parts.result ≡ r → ToldParts (up_to found.further_parts-most.result (read_formula found.args.levels)) ((setting_of found.args.text.now found.args.scope found.args.problem.now found.args.table)) found.args.at (memory found.args.names.now found.args.work.now) (found.args.to + 1) r (memory found.read_parts.new.names found.read_parts.new.work) = parts_by_lem _ _ _ _ _ _ _ found.read_parts.ensures in connective_parts) _ found.in-Done.is in
+      let parts = found.in-Done.ensures in
       (parts_few _ parts.taken, parts.after, parts.within, omega arith)
 
 -- A formula.
@@ -88,14 +76,6 @@ module _ (t : ℕ) (read : read_guarded-After-read_formula t) where
   abbrev guard_left : Memory
   guard_left = memory read.read_formula.new.names read.read_formula.new.work
 
-  guard_told : (r : Read) → read.read_formula.result ≡ r → Told (read_formula read.args.levels) guarded-setting read.args.at guarded-memory read.args.to r guard_left
-  guard_told = formula_by_lem _ _ _ _ _ _ _ read.read_formula.ensures
-
--- the guard that was read
-module _ (t : ℕ) (guard : read_guarded-In-Done t) where
-  guard_found : Found (read_formula guard.args.levels) ((setting_of guard.args.text.now guard.args.scope guard.args.problem.now guard.args.table)) guard.args.at ((memory guard.args.names.now guard.args.work.now)) guard.args.to guard.in-Done.next guard.in-Done.size guard.in-Done.guard ((memory guard.read_formula.new.names guard.read_formula.new.work))
-  guard_found = (let guard_told : (r : Read) → guard.read_formula.result ≡ r → Told (read_formula guard.args.levels) (setting_of guard.args.text.now guard.args.scope guard.args.problem.now guard.args.table) guard.args.at (memory guard.args.names.now guard.args.work.now) guard.args.to r (memory guard.read_formula.new.names guard.read_formula.new.work) = formula_by_lem _ _ _ _ _ _ _ guard.read_formula.ensures in guard_told) _ guard.in-Done.is
-
 -- what stands behind it
 module _ (t : ℕ) (behind : read_guarded-Else-not-begins_at t) where
   bracket : begins (bytes "]:") (drop behind.in-Done.next behind.args.text.now) ≡ true
@@ -106,39 +86,20 @@ module _ (t : ℕ) (read : read_guarded-After-read_formula-in-Done t) where
   abbrev body_left : Memory
   body_left = memory read.read_formula-in-Done.new.names read.read_formula-in-Done.new.work
 
-  body_told : (r : Read) → read.read_formula-in-Done.result ≡ r
-      → Told (read_formula read.args.levels) ((setting_of read.args.text.now read.args.scope read.args.problem.now read.args.table)) (read.in-Done.next + 2) ((memory read.read_formula.new.names read.read_formula.new.work)) (read.args.to + read.in-Done.size) r body_left
-  body_told = formula_by_lem _ _ _ _ _ _ _ read.read_formula-in-Done.ensures
-
   -- a guard and a body are refused as the body is
   body_refused : (number : ℕ)
       → read_formula read.args.levels (drop (read.in-Done.next + 2) read.args.text.now) ≡ refused number
       → read_guarded (read_formula read.args.levels) (drop read.args.at read.args.text.now) ≡ refused number
   body_refused =
-      guarded_bodiless ((setting_of read.args.text.now read.args.scope read.args.problem.now read.args.table)) (read_formula read.args.levels) read.args.at ((memory read.args.names.now read.args.work.now)) read.args.to _ _ _ ((memory read.read_formula.new.names read.read_formula.new.work)) ((let guard_found : Found (read_formula read.args.levels) ((setting_of read.args.text.now read.args.scope read.args.problem.now read.args.table)) read.args.at ((memory read.args.names.now read.args.work.now)) read.args.to read.in-Done.next read.in-Done.size read.in-Done.guard ((memory read.read_formula.new.names read.read_formula.new.work)) = (let guard_told : (r : Read) → read.read_formula.result ≡ r → Told (read_formula read.args.levels) (setting_of read.args.text.now read.args.scope read.args.problem.now read.args.table) read.args.at (memory read.args.names.now read.args.work.now) read.args.to r (memory read.read_formula.new.names read.read_formula.new.work) = formula_by_lem _ _ _ _ _ _ _ read.read_formula.ensures in guard_told) _ read.in-Done.is in guard_found)) ((let bracket : begins (bytes "]:") (drop read.in-Done.next read.args.text.now) ≡ true = sym read.begins_at.ensures ∙ read.if-not-begins_at.false in bracket))
+      guarded_bodiless (setting_of read.args.text.now read.args.scope read.args.problem.now read.args.table) (read_formula read.args.levels) read.args.at (memory read.args.names.now read.args.work.now) read.args.to _ _ _ (memory read.read_formula.new.names read.read_formula.new.work) read.in-Done.ensures (sym read.begins_at.ensures ∙ read.if-not-begins_at.false)
 
 -- a part is read
 module _ (t : ℕ) (read : read_parts-After-read_formula t) where
-  abbrev parts_setting : Setting
-  parts_setting = setting_of read.args.text.now read.args.scope read.args.problem.now read.args.table
-
-  abbrev part_left : Memory
-  part_left = memory read.read_formula.new.names read.read_formula.new.work
-
-  part-told : (r : Read) → read.read_formula.result ≡ r
-      → Told (read_formula read.args.levels) parts_setting read.loop-next.i (memory read.loop-next.names read.loop-next.work) (read.args.to + read.loop-next.size) r part_left
-  part-told = formula_by_lem _ _ _ _ _ _ _ read.read_formula.ensures
-
   -- parts are refused as one of them is
   part-refused : (number : ℕ)
       → read_formula read.args.levels (drop read.loop-next.i read.args.text.now) ≡ refused number
       → up_to read.args.most (read_formula read.args.levels) (drop read.args.at read.args.text.now) ≡ refused number
   part-refused = parts_refused _ _ _ _ _ _ _ _ _ _ _ _ read.loop-next.invariant.0
-
--- the part that was read
-module _ (t : ℕ) (part : read_parts-In-Done t) where
-  part-found : Found (read_formula part.args.levels) ((setting_of part.args.text.now part.args.scope part.args.problem.now part.args.table)) part.loop-next.i (memory part.loop-next.names part.loop-next.work) (part.args.to + part.loop-next.size) part.in-Done.next part.in-Done.extent part.in-Done.one ((memory part.read_formula.new.names part.read_formula.new.work))
-  part-found = (let part-told : (r : Read) → part.read_formula.result ≡ r → Told (read_formula part.args.levels) (setting_of part.args.text.now part.args.scope part.args.problem.now part.args.table) part.loop-next.i (memory part.loop-next.names part.loop-next.work) (part.args.to + part.loop-next.size) r (memory part.read_formula.new.names part.read_formula.new.work) = formula_by_lem _ _ _ _ _ _ _ part.read_formula.ensures in part-told) _ part.in-Done.is
 
 -- another follows it
 module _ (t : ℕ) (another : read_parts-Else-not-another_follows t) where
@@ -154,9 +115,6 @@ module _ (t : ℕ) (named : read_quantifier-In-At t) where
   abbrev quantifier-setting : Setting
   quantifier-setting = setting_of named.args.text.now named.args.scope named.args.problem.now named.args.table
 
-  variable-taken : NameTaken read_variable named.args.text.now named.args.at named.in-At.end
-  variable-taken = word-done read_variable _ _ _ named.variable_end.ensures _ named.in-At.is
-
 -- the bracket stands behind it
 module _ (t : ℕ) (opened : read_quantifier-Else-peek-ne91 t) where
   opens : next (drop opened.in-At.end opened.args.text.now) ≡ 91
@@ -164,23 +122,11 @@ module _ (t : ℕ) (opened : read_quantifier-Else-peek-ne91 t) where
 
 -- the guard and the body are read
 module _ (t : ℕ) (read : read_quantifier-After-read_guarded t) where
-  abbrev quantified-left : Memory
-  quantified-left = memory read.read_guarded.new.names read.read_guarded.new.work
-
-  quantified-told : (r : GuardedRead) → read.read_guarded.result ≡ r
-      → ToldGuarded (read_guarded (read_formula read.args.levels)) (setting_of read.args.text.now read.with_binding-inner.result read.args.problem.now read.args.table) (read.in-At.end + 1) (memory read.list_name-index.new.names read.args.work.now) (read.args.to + 1) r quantified-left
-  quantified-told = guarded_by _ _ _ _ _ _ _ read.read_guarded.ensures
-
   -- a quantifier is refused as they are
   quantified-refused : (number : ℕ)
       → read_guarded (read_formula read.args.levels) (drop (read.in-At.end + 1) read.args.text.now) ≡ refused number
       → read_quantifier (read_formula read.args.levels) (side_of read.args.every) (drop read.args.at read.args.text.now) ≡ refused number
-  quantified-refused = quantifier-refused ((setting_of read.args.text.now read.args.scope read.args.problem.now read.args.table)) _ _ _ _ ((let variable-taken : NameTaken read_variable read.args.text.now read.args.at read.in-At.end = word-done read_variable _ _ _ read.variable_end.ensures _ read.in-At.is in variable-taken)) ((let opens : next (drop read.in-At.end read.args.text.now) ≡ 91 = sym read.peek.ensures ∙ read.if-peek-ne91.false in opens))
-
--- the guard and the body that were read
-module _ (t : ℕ) (found : read_quantifier-In-Done t) where
-  quantified-found : GuardedFound (read_guarded (read_formula found.args.levels)) (setting_of found.args.text.now found.with_binding-inner.result found.args.problem.now found.args.table) (found.in-At.end + 1) (memory found.list_name-index.new.names found.args.work.now) (found.args.to + 1) found.in-Done.next found.in-Done.size found.in-Done.guard found.in-Done.body ((memory found.read_guarded.new.names found.read_guarded.new.work))
-  quantified-found = (let quantified-told : (r : GuardedRead) → found.read_guarded.result ≡ r → ToldGuarded (read_guarded (read_formula found.args.levels)) (setting_of found.args.text.now found.with_binding-inner.result found.args.problem.now found.args.table) (found.in-At.end + 1) (memory found.list_name-index.new.names found.args.work.now) (found.args.to + 1) r (memory found.read_guarded.new.names found.read_guarded.new.work) = guarded_by _ _ _ _ _ _ _ found.read_guarded.ensures in quantified-told) _ found.in-Done.is
+  quantified-refused = quantifier-refused (setting_of read.args.text.now read.args.scope read.args.problem.now read.args.table) _ _ _ _ read.in-At.ensures (sym read.peek.ensures ∙ read.if-peek-ne91.false)
 
 pub read_connective-overflow_add-at : goal.read_connective-overflow_add-at
 read_connective-overflow_add-at t c =
@@ -194,7 +140,7 @@ read_connective-returns-then-none_follow t c =
 pub read_connective-returns-then-not-parts_close : goal.read_connective-returns-then-not-parts_close
 read_connective-returns-then-not-parts_close t c =
     refused_behind c.args.text.now c.args.at
-    (connective_open (connective-setting t (goal.at.read_connective-returns-then-not-parts_close t c).After-none_follow) (read_formula c.args.levels) (connective_of c.args.sign) c.args.at (shrinks_formula c.args.levels) (some_follow t (goal.at.read_connective-returns-then-not-parts_close t c).After-read_parts) _ c.further_parts-most.ensures _ c.args.to _ _ _ _ _ _ (connective_parts t (goal.at.read_connective-returns-then-not-parts_close t c).After-read_parts _ c.in-Done.is)
+    (connective_open (connective-setting t (goal.at.read_connective-returns-then-not-parts_close t c).After-none_follow) (read_formula c.args.levels) (connective_of c.args.sign) c.args.at (shrinks_formula c.args.levels) (some_follow t (goal.at.read_connective-returns-then-not-parts_close t c).After-read_parts) _ c.further_parts-most.ensures _ c.args.to _ _ _ _ _ _ c.in-Done.ensures
     (sym c.parts_close.ensures ∙ c.if-not-parts_close.true))
 
 pub read_connective-overflow_cast-count : goal.read_connective-overflow_cast-count
@@ -212,16 +158,16 @@ read_connective-overflow_add-size t c = omega (arith, connective_parts_bounds t 
 pub read_connective-returns-else-not-parts_close : goal.read_connective-returns-else-not-parts_close
 read_connective-returns-else-not-parts_close t c =
     rw (c.read_to-in-Done.ensures, c.set_number-in-Done.ensures, c.connective_word-in-Done.ensures, c.connective_facts-in-Done.ensures, c.close_size.ensures.0)
-    (connective-found (connective-setting t (goal.at.read_connective-returns-else-not-parts_close t c).After-none_follow) (read_formula c.args.levels) (connective_of c.args.sign) c.args.at (shrinks_formula c.args.levels) (some_follow t (goal.at.read_connective-returns-else-not-parts_close t c).After-read_parts) _ c.further_parts-most.ensures _ c.args.to _ _ _ _ _ _ (connective_parts t (goal.at.read_connective-returns-else-not-parts_close t c).After-read_parts _ c.in-Done.is)
+    (connective-found (connective-setting t (goal.at.read_connective-returns-else-not-parts_close t c).After-none_follow) (read_formula c.args.levels) (connective_of c.args.sign) c.args.at (shrinks_formula c.args.levels) (some_follow t (goal.at.read_connective-returns-else-not-parts_close t c).After-read_parts) _ c.further_parts-most.ensures _ c.args.to _ _ _ _ _ _ c.in-Done.ensures
     (sym c.parts_close.ensures ∙ c.if-not-parts_close.false))
 
 pub read_connective-returns-in-Malformed : goal.read_connective-returns-in-Malformed
 read_connective-returns-in-Malformed t c =
-    refused_behind c.args.text.now _ (connective_parts_refused t (goal.at.read_connective-returns-in-Malformed t c).After-read_parts 5 (connective_parts t (goal.at.read_connective-returns-in-Malformed t c).After-read_parts _ c.in-Malformed.is))
+    refused_behind c.args.text.now _ (connective_parts_refused t (goal.at.read_connective-returns-in-Malformed t c).After-read_parts 5 c.in-Malformed.ensures)
 
 pub read_connective-returns-in-Deep : goal.read_connective-returns-in-Deep
 read_connective-returns-in-Deep t c =
-    refused_behind c.args.text.now _ (connective_parts_refused t (goal.at.read_connective-returns-in-Deep t c).After-read_parts 6 (connective_parts t (goal.at.read_connective-returns-in-Deep t c).After-read_parts _ c.in-Deep.is))
+    refused_behind c.args.text.now _ (connective_parts_refused t (goal.at.read_connective-returns-in-Deep t c).After-read_parts 6 c.in-Deep.ensures)
 
 pub read_formula-returns-then-levels-eq0 : goal.read_formula-returns-then-levels-eq0
 read_formula-returns-then-levels-eq0 t c = no_level c.args.levels _ c.if-levels-eq0.true
@@ -245,128 +191,128 @@ read_formula-returns-in-Quantifier t c =
     sign_read (formula-setting t (goal.at.read_formula-returns-in-Quantifier t c).After-opening_at) c.args.levels c.if-levels-eq0.false c.args.at (formula-memory t (goal.at.read_formula-returns-in-Quantifier t c).After-opening_at) c.args.to c.read_quantifier.result (memory c.read_quantifier.new.names c.read_quantifier.new.work) _ _ (formula_opens t (goal.at.read_formula-returns-in-Quantifier t c).After-opening_at _ c.in-Quantifier.is) c.read_quantifier.ensures
 
 pub read_guarded-begins_at-requires : goal.read_guarded-begins_at-requires
-read_guarded-begins_at-requires t c = omega (arith, guard_found t (goal.at.read_guarded-begins_at-requires t c).In-Done)
+read_guarded-begins_at-requires t c = omega (arith, c.in-Done.ensures)
 
 pub read_guarded-returns-then-not-begins_at : goal.read_guarded-returns-then-not-begins_at
 read_guarded-returns-then-not-begins_at t c =
-    guarded_open (guarded-setting t (goal.at.read_guarded-returns-then-not-begins_at t c).After-read_formula) (read_formula c.args.levels) c.args.at (guarded-memory t (goal.at.read_guarded-returns-then-not-begins_at t c).After-read_formula) c.args.to _ _ _ (guard_left t (goal.at.read_guarded-returns-then-not-begins_at t c).After-read_formula) (guard_found t (goal.at.read_guarded-returns-then-not-begins_at t c).In-Done) (sym c.begins_at.ensures ∙ c.if-not-begins_at.true)
+    guarded_open (guarded-setting t (goal.at.read_guarded-returns-then-not-begins_at t c).After-read_formula) (read_formula c.args.levels) c.args.at (guarded-memory t (goal.at.read_guarded-returns-then-not-begins_at t c).After-read_formula) c.args.to _ _ _ (guard_left t (goal.at.read_guarded-returns-then-not-begins_at t c).After-read_formula) c.in-Done.ensures (sym c.begins_at.ensures ∙ c.if-not-begins_at.true)
 
 pub read_guarded-overflow_add-next : goal.read_guarded-overflow_add-next
-read_guarded-overflow_add-next t c = omega (arith, guard_found t (goal.at.read_guarded-overflow_add-next t c).In-Done)
+read_guarded-overflow_add-next t c = omega (arith, c.in-Done.ensures)
 
 pub read_guarded-overflow_add-to : goal.read_guarded-overflow_add-to
-read_guarded-overflow_add-to t c = omega (arith, guard_found t (goal.at.read_guarded-overflow_add-to t c).In-Done)
+read_guarded-overflow_add-to t c = omega (arith, c.in-Done.ensures)
 
 pub read_guarded-read_formula-requires-in-Done : goal.read_guarded-read_formula-requires-in-Done
 read_guarded-read_formula-requires-in-Done t c =
-    let found = guard_found t (goal.at.read_guarded-read_formula-requires-in-Done t c).In-Done in
+    let found = c.in-Done.ensures in
     omega (arith, c.requires, found, guarded-within (guarded-setting t (goal.at.read_guarded-read_formula-requires-in-Done t c).After-read_formula) (read_formula c.args.levels) c.args.at (guarded-memory t (goal.at.read_guarded-read_formula-requires-in-Done t c).After-read_formula) c.args.to _ _ _ (guard_left t (goal.at.read_guarded-read_formula-requires-in-Done t c).After-read_formula) found (bracket t (goal.at.read_guarded-read_formula-requires-in-Done t c).Else-not-begins_at))
 
 pub read_guarded-overflow_add-result : goal.read_guarded-overflow_add-result
 read_guarded-overflow_add-result t c =
-    omega (arith, guard_found t (goal.at.read_guarded-overflow_add-result t c).In-Done, body_told t (goal.at.read_guarded-overflow_add-result t c).After-read_formula-in-Done _ c.in-Done-read_formula.is)
+    omega (arith, c.in-Done.ensures, c.in-Done-read_formula.ensures)
 
 pub read_guarded-returns-in-Done-read_formula : goal.read_guarded-returns-in-Done-read_formula
 read_guarded-returns-in-Done-read_formula t c =
-    guarded-found (guarded-setting t (goal.at.read_guarded-returns-in-Done-read_formula t c).After-read_formula) (read_formula c.args.levels) c.args.at (guarded-memory t (goal.at.read_guarded-returns-in-Done-read_formula t c).After-read_formula) c.args.to _ _ _ (guard_left t (goal.at.read_guarded-returns-in-Done-read_formula t c).After-read_formula) (guard_found t (goal.at.read_guarded-returns-in-Done-read_formula t c).In-Done) (bracket t (goal.at.read_guarded-returns-in-Done-read_formula t c).Else-not-begins_at)
-    _ _ _ (body_left t (goal.at.read_guarded-returns-in-Done-read_formula t c).After-read_formula-in-Done) (body_told t (goal.at.read_guarded-returns-in-Done-read_formula t c).After-read_formula-in-Done _ c.in-Done-read_formula.is)
+    guarded-found (guarded-setting t (goal.at.read_guarded-returns-in-Done-read_formula t c).After-read_formula) (read_formula c.args.levels) c.args.at (guarded-memory t (goal.at.read_guarded-returns-in-Done-read_formula t c).After-read_formula) c.args.to _ _ _ (guard_left t (goal.at.read_guarded-returns-in-Done-read_formula t c).After-read_formula) c.in-Done.ensures (bracket t (goal.at.read_guarded-returns-in-Done-read_formula t c).Else-not-begins_at)
+    _ _ _ (body_left t (goal.at.read_guarded-returns-in-Done-read_formula t c).After-read_formula-in-Done) c.in-Done-read_formula.ensures
 
 pub read_guarded-returns-in-Malformed-read_formula : goal.read_guarded-returns-in-Malformed-read_formula
-read_guarded-returns-in-Malformed-read_formula t c = body_refused t (goal.at.read_guarded-returns-in-Malformed-read_formula t c).After-read_formula-in-Done 5 (body_told t (goal.at.read_guarded-returns-in-Malformed-read_formula t c).After-read_formula-in-Done _ c.in-Malformed-read_formula.is)
+read_guarded-returns-in-Malformed-read_formula t c = body_refused t (goal.at.read_guarded-returns-in-Malformed-read_formula t c).After-read_formula-in-Done 5 c.in-Malformed-read_formula.ensures
 
 pub read_guarded-returns-in-Deep-read_formula : goal.read_guarded-returns-in-Deep-read_formula
-read_guarded-returns-in-Deep-read_formula t c = body_refused t (goal.at.read_guarded-returns-in-Deep-read_formula t c).After-read_formula-in-Done 6 (body_told t (goal.at.read_guarded-returns-in-Deep-read_formula t c).After-read_formula-in-Done _ c.in-Deep-read_formula.is)
+read_guarded-returns-in-Deep-read_formula t c = body_refused t (goal.at.read_guarded-returns-in-Deep-read_formula t c).After-read_formula-in-Done 6 c.in-Deep-read_formula.ensures
 
 pub read_guarded-returns-in-Malformed : goal.read_guarded-returns-in-Malformed
 read_guarded-returns-in-Malformed t c =
-    guarded-refused (guarded-setting t (goal.at.read_guarded-returns-in-Malformed t c).After-read_formula) (read_formula c.args.levels) c.args.at (guarded-memory t (goal.at.read_guarded-returns-in-Malformed t c).After-read_formula) c.args.to 5 (guard_told t (goal.at.read_guarded-returns-in-Malformed t c).After-read_formula _ c.in-Malformed.is)
+    guarded-refused (guarded-setting t (goal.at.read_guarded-returns-in-Malformed t c).After-read_formula) (read_formula c.args.levels) c.args.at (guarded-memory t (goal.at.read_guarded-returns-in-Malformed t c).After-read_formula) c.args.to 5 c.in-Malformed.ensures
 
 pub read_guarded-returns-in-Deep : goal.read_guarded-returns-in-Deep
 read_guarded-returns-in-Deep t c =
-    guarded-refused (guarded-setting t (goal.at.read_guarded-returns-in-Deep t c).After-read_formula) (read_formula c.args.levels) c.args.at (guarded-memory t (goal.at.read_guarded-returns-in-Deep t c).After-read_formula) c.args.to 6 (guard_told t (goal.at.read_guarded-returns-in-Deep t c).After-read_formula _ c.in-Deep.is)
+    guarded-refused (guarded-setting t (goal.at.read_guarded-returns-in-Deep t c).After-read_formula) (read_formula c.args.levels) c.args.at (guarded-memory t (goal.at.read_guarded-returns-in-Deep t c).After-read_formula) c.args.to 6 c.in-Deep.ensures
 
 pub read_parts-loop-next-init : goal.read_parts-loop-next-init
 read_parts-loop-next-init t c = (rw c.simple_facts-facts.ensures (parts_first _ _ _ _ _ _ c.requires.0), refl)
 
 pub read_parts-overflow_add-count : goal.read_parts-overflow_add-count
-read_parts-overflow_add-count t c = omega (arith, part-found t (goal.at.read_parts-overflow_add-count t c).In-Done)
+read_parts-overflow_add-count t c = omega (arith, c.in-Done.ensures)
 
 pub read_parts-overflow_add-size : goal.read_parts-overflow_add-size
-read_parts-overflow_add-size t c = omega (arith, part-found t (goal.at.read_parts-overflow_add-size t c).In-Done)
+read_parts-overflow_add-size t c = omega (arith, c.in-Done.ensures)
 
 pub read_parts-returns-then-not-another_follows : goal.read_parts-returns-then-not-another_follows
 read_parts-returns-then-not-another_follows t c =
     rw (c.parts_to.ensures, c.facts_beside-facts.ensures)
-    (parts_last _ _ _ _ _ _ _ _ _ _ _ _ c.loop-next.invariant.0 _ _ _ _ (part-found t (goal.at.read_parts-returns-then-not-another_follows t c).In-Done) (sym c.another_follows.ensures ∙ c.if-not-another_follows.true))
+    (parts_last _ _ _ _ _ _ _ _ _ _ _ _ c.loop-next.invariant.0 _ _ _ _ c.in-Done.ensures (sym c.another_follows.ensures ∙ c.if-not-another_follows.true))
 
 pub read_parts-overflow_sub-more : goal.read_parts-overflow_sub-more
 read_parts-overflow_sub-more t c = omega (arith, more_follow t (goal.at.read_parts-overflow_sub-more t c).Else-not-another_follows)
 
 pub read_parts-overflow_add-i : goal.read_parts-overflow_add-i
-read_parts-overflow_add-i t c = omega (arith, part-found t (goal.at.read_parts-overflow_add-i t c).In-Done, c.requires.1)
+read_parts-overflow_add-i t c = omega (arith, c.in-Done.ensures, c.requires.1)
 
 pub read_parts-loop-next-smaller : goal.read_parts-loop-next-smaller
 read_parts-loop-next-smaller t c = omega (arith, more_follow t (goal.at.read_parts-loop-next-smaller t c).Else-not-another_follows)
 
 pub read_parts-loop-next-preserved : goal.read_parts-loop-next-preserved
 read_parts-loop-next-preserved t c =
-    (rw c.facts_beside-facts.ensures (parts_on _ _ _ _ _ _ _ _ _ _ _ _ c.loop-next.invariant.0 _ _ _ _ (part-found t (goal.at.read_parts-loop-next-preserved t c).In-Done) (comma t (goal.at.read_parts-loop-next-preserved t c).Else-not-another_follows)), search rules)
+    (rw c.facts_beside-facts.ensures (parts_on _ _ _ _ _ _ _ _ _ _ _ _ c.loop-next.invariant.0 _ _ _ _ c.in-Done.ensures (comma t (goal.at.read_parts-loop-next-preserved t c).Else-not-another_follows)), search rules)
 
 pub read_parts-returns-in-Malformed : goal.read_parts-returns-in-Malformed
-read_parts-returns-in-Malformed t c = part-refused t (goal.at.read_parts-returns-in-Malformed t c).After-read_formula 5 (part-told t (goal.at.read_parts-returns-in-Malformed t c).After-read_formula _ c.in-Malformed.is)
+read_parts-returns-in-Malformed t c = part-refused t (goal.at.read_parts-returns-in-Malformed t c).After-read_formula 5 c.in-Malformed.ensures
 
 pub read_parts-returns-in-Deep : goal.read_parts-returns-in-Deep
-read_parts-returns-in-Deep t c = part-refused t (goal.at.read_parts-returns-in-Deep t c).After-read_formula 6 (part-told t (goal.at.read_parts-returns-in-Deep t c).After-read_formula _ c.in-Deep.is)
+read_parts-returns-in-Deep t c = part-refused t (goal.at.read_parts-returns-in-Deep t c).After-read_formula 6 c.in-Deep.ensures
 
 pub read_quantifier-returns-then-peek-ne91 : goal.read_quantifier-returns-then-peek-ne91
 read_quantifier-returns-then-peek-ne91 t c =
-    refused_behind c.args.text.now _ (quantifier_open (quantifier-setting t (goal.at.read_quantifier-returns-then-peek-ne91 t c).In-At) _ _ _ _ (variable-taken t (goal.at.read_quantifier-returns-then-peek-ne91 t c).In-At) (λ e. c.if-peek-ne91.true (c.peek.ensures ∙ e)))
+    refused_behind c.args.text.now _ (quantifier_open (quantifier-setting t (goal.at.read_quantifier-returns-then-peek-ne91 t c).In-At) _ _ _ _ c.in-At.ensures (λ e. c.if-peek-ne91.true (c.peek.ensures ∙ e)))
 
 pub read_quantifier-overflow_sub-end : goal.read_quantifier-overflow_sub-end
-read_quantifier-overflow_sub-end t c = omega (arith, variable-taken t (goal.at.read_quantifier-overflow_sub-end t c).In-At)
+read_quantifier-overflow_sub-end t c = omega (arith, c.in-At.ensures)
 
 pub read_quantifier-list_name-index-requires : goal.read_quantifier-list_name-index-requires
-read_quantifier-list_name-index-requires t c = omega (arith, variable-taken t (goal.at.read_quantifier-list_name-index-requires t c).In-At)
+read_quantifier-list_name-index-requires t c = omega (arith, c.in-At.ensures)
 
 pub read_quantifier-overflow_sub-end-in-At : goal.read_quantifier-overflow_sub-end-in-At
-read_quantifier-overflow_sub-end-in-At t c = omega (arith, variable-taken t (goal.at.read_quantifier-overflow_sub-end-in-At t c).In-At)
+read_quantifier-overflow_sub-end-in-At t c = omega (arith, c.in-At.ensures)
 
 pub read_quantifier-with_binding-inner-requires : goal.read_quantifier-with_binding-inner-requires
-read_quantifier-with_binding-inner-requires t c = omega (arith, variable-taken t (goal.at.read_quantifier-with_binding-inner-requires t c).In-At)
+read_quantifier-with_binding-inner-requires t c = omega (arith, c.in-At.ensures)
 
 pub read_quantifier-overflow_add-end : goal.read_quantifier-overflow_add-end
-read_quantifier-overflow_add-end t c = omega (arith, variable-taken t (goal.at.read_quantifier-overflow_add-end t c).In-At)
+read_quantifier-overflow_add-end t c = omega (arith, c.in-At.ensures)
 
 pub read_quantifier-overflow_add-to : goal.read_quantifier-overflow_add-to
-read_quantifier-overflow_add-to t c = omega (arith, variable-taken t (goal.at.read_quantifier-overflow_add-to t c).In-At)
+read_quantifier-overflow_add-to t c = omega (arith, c.in-At.ensures)
 
 pub read_quantifier-read_guarded-requires : goal.read_quantifier-read_guarded-requires
 read_quantifier-read_guarded-requires t c =
-    let taken = variable-taken t (goal.at.read_quantifier-read_guarded-requires t c).In-At in
+    let taken = c.in-At.ensures in
     omega (arith, taken, c.requires, c.with_binding-inner.ensures.count, bracket_within (quantifier-setting t (goal.at.read_quantifier-read_guarded-requires t c).In-At) (read_formula c.args.levels) (side_of c.args.every) _ _ taken (opens t (goal.at.read_quantifier-read_guarded-requires t c).Else-peek-ne91))
 
 pub read_quantifier-quantifier_word-requires : goal.read_quantifier-quantifier_word-requires
 read_quantifier-quantifier_word-requires t c = omega (arith, c.list_name-index.ensures.small)
 
 pub read_quantifier-overflow_add-size : goal.read_quantifier-overflow_add-size
-read_quantifier-overflow_add-size t c = omega (arith, quantified-found t (goal.at.read_quantifier-overflow_add-size t c).In-Done)
+read_quantifier-overflow_add-size t c = omega (arith, c.in-Done.ensures)
 
 pub read_quantifier-quantifier_facts-requires : goal.read_quantifier-quantifier_facts-requires
 read_quantifier-quantifier_facts-requires t c =
-    guarded-few _ _ _ _ _ _ _ _ _ _ (quantified-found t (goal.at.read_quantifier-quantifier_facts-requires t c).In-Done) c.requires.1
+    guarded-few _ _ _ _ _ _ _ _ _ _ c.in-Done.ensures c.requires.1
 
 pub read_quantifier-returns-in-Done : goal.read_quantifier-returns-in-Done
 read_quantifier-returns-in-Done t c =
     rw (c.read_to.ensures, c.set_number.ensures, c.quantifier_word.ensures, c.quantifier_facts.ensures)
-    (quantifier-found (quantifier-setting t (goal.at.read_quantifier-returns-in-Done t c).In-At) _ _ _ _ (variable-taken t (goal.at.read_quantifier-returns-in-Done t c).In-At) (opens t (goal.at.read_quantifier-returns-in-Done t c).Else-peek-ne91) _ (c.with_binding-inner.ensures.is _) _ _ _ _ _ c.list_name-index.ensures _ _ _ _ _ _ (quantified-found t (goal.at.read_quantifier-returns-in-Done t c).In-Done))
+    (quantifier-found (quantifier-setting t (goal.at.read_quantifier-returns-in-Done t c).In-At) _ _ _ _ c.in-At.ensures (opens t (goal.at.read_quantifier-returns-in-Done t c).Else-peek-ne91) _ (c.with_binding-inner.ensures.is _) _ _ _ _ _ c.list_name-index.ensures _ _ _ _ _ _ c.in-Done.ensures)
 
 pub read_quantifier-returns-in-Malformed-read_guarded : goal.read_quantifier-returns-in-Malformed-read_guarded
 read_quantifier-returns-in-Malformed-read_guarded t c =
-    refused_behind c.args.text.now _ (quantified-refused t (goal.at.read_quantifier-returns-in-Malformed-read_guarded t c).After-read_guarded 5 (quantified-told t (goal.at.read_quantifier-returns-in-Malformed-read_guarded t c).After-read_guarded _ c.in-Malformed-read_guarded.is))
+    refused_behind c.args.text.now _ (quantified-refused t (goal.at.read_quantifier-returns-in-Malformed-read_guarded t c).After-read_guarded 5 c.in-Malformed-read_guarded.ensures)
 
 pub read_quantifier-returns-in-Deep : goal.read_quantifier-returns-in-Deep
 read_quantifier-returns-in-Deep t c =
-    refused_behind c.args.text.now _ (quantified-refused t (goal.at.read_quantifier-returns-in-Deep t c).After-read_guarded 6 (quantified-told t (goal.at.read_quantifier-returns-in-Deep t c).After-read_guarded _ c.in-Deep.is))
+    refused_behind c.args.text.now _ (quantified-refused t (goal.at.read_quantifier-returns-in-Deep t c).After-read_guarded 6 c.in-Deep.ensures)
 
 pub read_quantifier-returns-in-Malformed : goal.read_quantifier-returns-in-Malformed
 read_quantifier-returns-in-Malformed t c =

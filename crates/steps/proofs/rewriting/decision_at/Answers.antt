@@ -26,9 +26,9 @@ module _ (start : Start) where
   words_long = length-take-le start.args.live.full start.args.work.now (omega (arith, start.requires.0, start.requires.1))
 
 -- a quantifier stands in the theory
-here : (c : After-rule_fit-fit) → c.rule_fit-fit.result ≡ fit.Quantifier → c.args.at < length ((take c.args.live.full c.args.work.now))
+here : (c : After-rule_fit-fit) → c.rule_fit-fit.result ≡ fit.Quantifier → c.args.at < length (take c.args.live.full c.args.work.now)
 here c e =
-    fit-here c.args.table ((take (c.args.layout.names - c.args.layout.rows) (drop c.args.layout.rows c.args.work.now))) c.args.rule ((take c.args.live.full c.args.work.now)) c.args.at
+    fit-here c.args.table (take (c.args.layout.names - c.args.layout.rows) (drop c.args.layout.rows c.args.work.now)) c.args.rule (take c.args.live.full c.args.work.now) c.args.at
     (λ m. let z : ◌≡◌ {A = ℕ} 0 1 = cc (e, m, c.rule_fit-fit.ensures) in omega arith)
 
 pub slice_bounds-rule_fit-end : goal.slice_bounds-rule_fit-end

@@ -22,7 +22,7 @@ module _ (start : Start) where
 
 -- nothing is refused
 module _ (c : Else-decision-ne0) where
-  fits : let rest = drop c.args.at ((held_in c.args.layout c.args.live c.args.work.now)).words in misfit (rule_fit c.args.table ((rows_in c.args.layout c.args.work.now)) c.args.rule rest) rest ≡ 0
+  fits : let rest = drop c.args.at (held_in c.args.layout c.args.live c.args.work.now).words in misfit (rule_fit c.args.table (rows_in c.args.layout c.args.work.now) c.args.rule rest) rest ≡ 0
   fits = sym c.decision_at-decision.ensures.numbered ∙ c.if-decision-ne0.false
 
 pub returns-then-decision-ne0 : goal.returns-then-decision-ne0

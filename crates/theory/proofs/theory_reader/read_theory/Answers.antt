@@ -30,13 +30,13 @@ module _ (line : After-read_theory_line) where
 
 -- a line that is not refused
 found : (c : In-Done) (rows : List ℕ)
-    → TheoryLineFound ((let problem : List ℕ → Problem = λ rows. problem_in c.args.problem.now c.args.table rows in problem) rows) c.args.text.now (predicate_index c.args.problem.now c.args.table) c.loop-at.at (memory c.loop-at.names c.loop-at.work) c.loop-at.full c.in-Done.next c.in-Done.size c.in-Done.guarded ((memory c.read_theory_line.new.names c.read_theory_line.new.work))
+    → TheoryLineFound (problem_in c.args.problem.now c.args.table rows) c.args.text.now (predicate_index c.args.problem.now c.args.table) c.loop-at.at (memory c.loop-at.names c.loop-at.work) c.loop-at.full c.in-Done.next c.in-Done.size c.in-Done.guarded (memory c.read_theory_line.new.names c.read_theory_line.new.work)
 found c rows =
     rw c.in-Done.is at (c.read_theory_line.ensures rows)
 
 -- whether the totals fit
 fits : (c : After-limits_fit) (b : Bool) → c.limits_fit.result ≡ b
-    → totals_fit (c.loop-at.full + c.in-Done.size) (c.loop-at.count + 1) c.in-Done.guarded (names_in c.args.text.now ((memory c.read_theory_line.new.names c.read_theory_line.new.work)).names) ≡ b
+    → totals_fit (c.loop-at.full + c.in-Done.size) (c.loop-at.count + 1) c.in-Done.guarded (names_in c.args.text.now (memory c.read_theory_line.new.names c.read_theory_line.new.work).names) ≡ b
 fits c b e = sym c.limits_fit.ensures ∙ e
 
 pub loop-at-init : goal.loop-at-init
