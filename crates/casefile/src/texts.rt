@@ -1,17 +1,22 @@
 // The texts of a file of data/: each stands behind a line `# name`, or `#- name` where its last LF is left out.
-ghost use Rattle.std.specs.Prelude.{◌≤◌, ◌<◌, length};
+ghost use Rattle.std.specs.Prelude.{◌≡◌, ◌≤◌, ◌<◌, length};
+ghost use Rattle.std.specs.Iterator.{at_most};
 
-use text::byte::peek;
 use text::line::line_end;
 
-// A text: the place and the size of its name, its own, and the place of the next heading.
+// A text of a file: its name, its own bytes, and the file from its first byte on, of which `size` bytes are its lines.
 #[derive(Clone, Copy)]
-pub struct Section {
-    pub name: usize,
-    pub named: usize,
-    pub start: usize,
+pub struct Section<'a> {
+    pub name: &'a [u8],
+    pub text: &'a [u8],
+    pub source: &'a [u8],
     pub size: usize,
-    pub next: usize,
+}
+
+// The texts of a file, one after the other: what is left of it.
+#[derive(Drop)]
+pub struct Sections<'a> {
+    rest: &'a [u8],
 }
 
 // The place after the line at a place: behind its LF, or the end.
@@ -19,52 +24,50 @@ pub fn after_line(file: &[u8], at: usize) -> usize
     requires { at < length file.now }
     ensures { (at < result) × (result ≤ length file.now) }
 {
-    let end = line_end(file, at);
-    if end < file.len() { end + 1 } else { end }
+    file.len().min(line_end(file, at) + 1)
 }
 
-// The place of the next heading, from the beginning of a line on; the end, where there is none.
-fn heading_from(file: &[u8], at: usize) -> usize
-    requires { at ≤ length file.now }
-    ensures { (at ≤ result) × (result ≤ length file.now) }
+// What is left from the next heading on.
+fn from_heading(lines: &[u8]) -> &[u8]
+    ensures { length result.now ≤ length lines.now }
 {
-    let mut i = at;
-    while i < file.len() {
-        if file[i] == b'#' {
-            return i;
-        }
-        i = after_line(file, i);
+    let mut rest = lines;
+    // A `while`: each turn takes a whole line off, and what is left is the answer.
+    while !rest.is_empty() && rest[0] != b'#' {
+        rest = &rest[after_line(rest, 0)..];
     }
-    i
+    rest
 }
 
-// How many bytes from a place to another; none, where that is not behind it.
-pub fn between(from: usize, to: usize) -> usize {
-    if from < to { to - from } else { 0 }
+impl<'a> Sections<'a> {
+    // The texts of a file from its beginning on, where a heading stands.
+    pub fn of(file: &'a [u8]) -> Sections<'a>
+        ensures { result.rest.now ≡ file.now }
+    {
+        Sections { rest: file }
+    }
 }
 
-// How many bytes a text's end lacks: an LF, where a `-` stands in its heading.
-fn cut_at(file: &[u8], at: usize) -> usize
-    ensures { result ≤ 1 }
-{
-    if peek(file, at) == b'-' { 1 } else { 0 }
-}
+impl<'a> Iterator for Sections<'a> {
+    type Item = Section<'a>;
 
-// The text whose heading stands at a place.
-pub fn section_at(file: &[u8], at: usize) -> Section
-    requires { at < length file.now }
-    ensures { (at < result.next) × (result.next ≤ length file.now) }
-{
-    let heading = line_end(file, at);
-    let start = after_line(file, at);
-    let next = heading_from(file, start);
-    let cut = cut_at(file, at + 1);
-    let name = at + 2 + cut;
-    Section {
-        name,
-        named: between(name, heading),
-        start,
-        size: between(cut, next - start),
-        next,
+    ghost remaining = { λ s. at_most (length s.rest.now) };
+
+    fn next(&mut self) -> Option<Section<'a>> {
+        let file = self.rest;
+        if file.is_empty() {
+            return None;
+        }
+        let cut = usize::from(file.get(1) == Some(&b'-'));
+        let heading = &file[..line_end(file, 0)];
+        let source = &file[after_line(file, 0)..];
+        self.rest = from_heading(source);
+        let size = source.len() - self.rest.len();
+        Some(Section {
+            name: heading.get(2 + cut..).unwrap_or(&[]),
+            text: &source[..size.saturating_sub(cut)],
+            source,
+            size,
+        })
     }
 }

@@ -1,75 +1,85 @@
-// The derivation's reader, which holds the text, its place in it and the number of the line that begins there. What a line is, is left to
-// `numbered_at`, over the three apart.
-ghost use Rattle.std.specs.Prelude.{◌≡◌, ◌≤◌, length};
-ghost use Rattle.derivation.specs.memory.RuleLines.{heading_of, Awaited, ToldNumbered};
+// The derivation's reader, which holds the text, its place in it and the number of the line that begins there.
+ghost use Rattle.std.specs.Prelude.{◌≡◌, ◌≤◌, ◌<◌, ◌+◌, ◌^◌, ◌↔◌, length, IsTrue, IfSome, option_map};
+ghost use Rattle.grammar.specs.Derivation.{read_line, read_version, read_grounder};
+ghost use Rattle.text.specs.memory.Told.{Told, ToldEnd, read_to};
+ghost use Rattle.derivation.specs.memory.RuleLines.{line_in, LineBefore, MovesOn};
 
-use crate::rule_line::{LineRead, grounder_end, line_at, version_end};
-use text::byte::Ended;
+use crate::rule_line::{Line, grounder_end, line_at, version_end};
 
 #[derive(Clone, Copy)]
 pub struct Reader<'a> {
     pub text: &'a [u8],
     pub at: usize,
-    pub line: u32,
+    pub line: usize,
+    // each line takes a byte at least, whatever number of 32 bits the first has
+    ghost counted: { line ≤ at + 2 ^ 32 },
 }
 
-// A line as it is read, and its number.
-#[derive(Clone, Copy)]
-pub struct Numbered {
-    pub read: LineRead,
-    pub line: u32,
-}
-
-fn heading_of(ended: Ended) -> LineRead
-    ensures { result ≡ heading_of ended }
-{
-    match ended {
-        Ended::At(next) => LineRead::Heading { next },
-        Ended::Malformed => LineRead::Malformed,
+impl<'a> Reader<'a> {
+    // Where a text begins.
+    pub fn new(text: &'a [u8]) -> Reader<'a>
+        ensures { (result.text ≡ text.entry) × (result.at ≡ 0) × (result.line ≡ 1) }
+    {
+        Reader {
+            text,
+            at: 0,
+            line: 1,
+        }
     }
-}
 
-// What a derivation has under a number: the version, the grounder, then rule lines and the footer.
-fn awaited_at(text: &[u8], at: usize, line: u32) -> LineRead
-    requires { at ≤ length text.now }
-    ensures { Awaited text.now at line result }
-{
-    if line == 1 {
-        return heading_of(version_end(text, at));
+    // Whether it stands at the end of the text.
+    pub fn is_done(&self) -> bool
+        ensures { IsTrue result ↔ (self.now.at ≡ length self.now.text.now) }
+    {
+        self.at == self.text.len()
     }
-    if line == 2 {
-        return heading_of(grounder_end(text, at));
+
+    // The line ends, and the next begins at a place behind.
+    fn go_to(&mut self, next: usize)
+        requires { (self.old.at < next) × (next ≤ length self.old.text.now) }
+        ensures { (self.new.text ≡ self.old.text) × (self.new.at ≡ next) × (self.new.line ≡ self.old.line + 1) }
+    {
+        self.at = next;
+        self.line += 1;
     }
-    line_at(text, at)
-}
 
-// The line that begins at a place, under a number.
-fn numbered_at(text: &[u8], at: usize, line: u32) -> Numbered
-    requires { at ≤ length text.now }
-    ensures { ToldNumbered text.now at line result }
-{
-    let read = awaited_at(text, at, line);
-    Numbered { read, line }
-}
+    // The heading's first line; None: it is malformed, and the reader stays where it was.
+    pub fn version(&mut self) -> Option<()>
+        requires { self.old.at ≤ length self.old.text.now }
+        ensures text { self.new.text ≡ self.old.text }
+        ensures within { self.new.at ≤ length self.new.text.now }
+        ensures read { ToldEnd 10 read_version self.old.text.now self.old.at (option_map (λ u. self.new.at) result) }
+        ensures on { MovesOn result self.old.at self.new.at self.old.line self.new.line }
+    {
+        let next = version_end(self.text, self.at)?;
+        self.go_to(next);
+        Some(())
+    }
 
-pub fn reader_at<'a>(text: &'a [u8], at: usize, line: u32) -> Reader<'a>
-    ensures { (result.text ≡ text.entry) × (result.at ≡ at) × (result.line ≡ line) }
-{
-    Reader { text, at, line }
-}
+    // The heading's second line, likewise.
+    pub fn grounder(&mut self) -> Option<()>
+        requires { self.old.at ≤ length self.old.text.now }
+        ensures text { self.new.text ≡ self.old.text }
+        ensures within { self.new.at ≤ length self.new.text.now }
+        ensures read { ToldEnd 10 read_grounder self.old.text.now self.old.at (option_map (λ u. self.new.at) result) }
+        ensures on { MovesOn result self.old.at self.new.at self.old.line self.new.line }
+    {
+        let next = grounder_end(self.text, self.at)?;
+        self.go_to(next);
+        Some(())
+    }
 
-// The line where the reader stands.
-pub fn next_line<'a>(reader: Reader<'a>) -> Numbered
-    requires { reader.at ≤ length reader.text.now }
-    ensures { ToldNumbered reader.entry.text.now reader.entry.at reader.entry.line result }
-{
-    numbered_at(reader.text, reader.at, reader.line)
-}
-
-// The same for a caller that holds the text, the place and the number apart.
-pub fn read_line(text: &[u8], at: usize, line: u32) -> Numbered
-    requires { at ≤ length text.now }
-    ensures { ToldNumbered text.now at line result }
-{
-    next_line(reader_at(text, at, line))
+    // A rule line or the footer, likewise.
+    pub fn next_line(&mut self) -> Option<Line>
+        requires { self.old.at ≤ length self.old.text.now }
+        ensures text { self.new.text ≡ self.old.text }
+        ensures within { self.new.at ≤ length self.new.text.now }
+        ensures read { Told 10 read_line (line_in self.old.text.now) self.old.text.now self.old.at (option_map (read_to self.new.at) result) }
+        ensures on { MovesOn result self.old.at self.new.at self.old.line self.new.line }
+        ensures before { IfSome result (λ l. LineBefore l self.new.at) }
+    {
+        let read = line_at(self.text, self.at)?;
+        self.go_to(read.next);
+        Some(read.value)
+    }
 }

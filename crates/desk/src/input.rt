@@ -1,84 +1,49 @@
-// The files that are read, and the memory that is lent to the check.
-ghost use Rattle.std.specs.Prelude.{◌≤◌, ◌≡◌, length};
-ghost use Rattle.io.specs.Counts.{IsPrefixLen};
-ghost use Rattle.desk.specs.Unread.{first_unread};
+// The four texts of a job: each was read, or the first of the files that was not is named.
+ghost use Rattle.std.specs.Prelude.{◌≡◌, is_some, IfErr, IfOk, Some};
+ghost use Rattle.desk.specs.Unread.{first_unread, number};
 
-use std::fs;
-use std::io::Read;
-use std::rt::Files;
-
-// What was read of a file: whether it could be opened and read, and how many bytes.
+// The files of a job.
 #[derive(Clone, Copy)]
-pub struct Loaded {
-    pub opened: bool,
-    pub size: usize,
+pub enum File {
+    Problem = 1,
+    Theory,
+    Derivation,
+    Claim,
 }
 
-// Room for a text, and a byte more: a text that takes that too is too long, and the check says so.
-pub fn room() -> [u8; 65537]
-    ensures { 65537 ≡ length result }
-{
-    [0; 65537]
-}
-
-pub fn work() -> [u32; 16384]
-    ensures { 16384 ≡ length result }
-{
-    [0; 16384]
-}
-
-fn unread() -> Loaded
-    ensures { result.size ≡ 0 }
-{
-    Loaded {
-        opened: false,
-        size: 0,
+impl File {
+    // The number that is printed of it. A method and no `From`: `file.number()` says what the number is.
+    pub fn number(self) -> u8
+        ensures { result ≡ number self }
+    {
+        self as u8
     }
 }
 
-// Reads until the room is full, the file ends or a read fails.
-fn fill(file: &mut impl Read, room: &mut [u8]) -> Loaded
-    ensures { result.size ≤ length room.new }
-{
-    let mut size: usize = 0;
-    while size < room.len() {
-        match file.read(&mut room[size..]) {
-            Ok(0) => return Loaded { opened: true, size },
-            Ok(more) => size += more,
-            Err(_) => return unread(),
-        }
-    }
-    Loaded { opened: true, size }
+#[derive(Clone, Copy)]
+pub struct Texts<'a> {
+    pub problem: &'a [u8],
+    pub theory: &'a [u8],
+    pub derivation: &'a [u8],
+    pub claim: &'a [u8],
 }
 
-// A file of the folder; unread, where it can't be opened, or not be read, as a folder.
-pub fn load(rt: &impl Files, path: &[u8], room: &mut [u8]) -> Loaded
-    ensures { IsPrefixLen result.size room.new }
-{
-    let Ok(name) = str::from_utf8(path) else {
-        return unread();
-    };
-    match fs::open(rt, name) {
-        Ok(mut file) => fill(&mut file, room),
-        Err(_) => unread(),
+impl<'a> Texts<'a> {
+    // The texts, where all four were read; otherwise the first file that was not.
+    pub fn all(
+        problem: Option<&'a [u8]>,
+        theory: Option<&'a [u8]>,
+        derivation: Option<&'a [u8]>,
+        claim: Option<&'a [u8]>,
+    ) -> Result<Texts<'a>, File>
+        ensures read { IfOk result (λ texts. (problem.entry ≡ Some texts.problem) × (theory.entry ≡ Some texts.theory) × (derivation.entry ≡ Some texts.derivation) × (claim.entry ≡ Some texts.claim)) }
+        ensures unread { IfErr result (λ file. number file ≡ first_unread (is_some problem.entry) (is_some theory.entry) (is_some derivation.entry) (is_some claim.entry)) }
+    {
+        Ok(Texts {
+            problem: problem.ok_or(File::Problem)?,
+            theory: theory.ok_or(File::Theory)?,
+            derivation: derivation.ok_or(File::Derivation)?,
+            claim: claim.ok_or(File::Claim)?,
+        })
     }
-}
-
-// The number of the first file that is not open, 0 where all are.
-pub fn first_unread(problem: bool, theory: bool, derivation: bool, claim: bool) -> u64
-    ensures { result ≡ first_unread problem theory derivation claim }
-{
-    if !problem {
-        return 1;
-    }
-    if !theory {
-        return 2;
-    }
-    if !derivation {
-        return 3;
-    }
-    if !claim {
-        return 4;
-    }
-    0
 }

@@ -4,19 +4,26 @@
 mod input;
 mod say;
 
+use input::Texts;
 use std::io::Result;
 use std::rt::Files;
 
-fn check_texts(
-    rt: &impl Print,
-    problem: &[u8],
-    theory: &[u8],
-    derivation: &[u8],
-    claim: &[u8],
-) -> Result<()> {
+// Room for a text, and a byte more: a text that takes that too is too long, and the check says so.
+const ROOM: usize = 65537;
+
+const WORK: usize = 16384;
+
+fn check_texts(rt: &impl Print, texts: Texts) -> Result<()> {
     let mut output = io::large_buffer();
-    let mut work = input::work();
-    let answer = replay::job::check(problem, theory, derivation, claim, &mut output, &mut work);
+    let mut work = [0; WORK];
+    let answer = replay::job::check(
+        texts.problem,
+        texts.theory,
+        texts.derivation,
+        texts.claim,
+        &mut output,
+        &mut work,
+    );
     say::answer(rt, answer)
 }
 
@@ -28,23 +35,16 @@ pub fn check_files(
     derivation: &[u8],
     claim: &[u8],
 ) -> Result<()> {
-    let mut problem_text = input::room();
-    let mut theory_text = input::room();
-    let mut derivation_text = input::room();
-    let mut claim_text = input::room();
-    let p = input::load(rt, problem, &mut problem_text);
-    let t = input::load(rt, theory, &mut theory_text);
-    let d = input::load(rt, derivation, &mut derivation_text);
-    let c = input::load(rt, claim, &mut claim_text);
-    let unread = input::first_unread(p.opened, t.opened, d.opened, c.opened);
-    if unread != 0 {
-        return say::unread(rt, unread);
+    let mut problem_room = [0; ROOM];
+    let mut theory_room = [0; ROOM];
+    let mut derivation_room = [0; ROOM];
+    let mut claim_room = [0; ROOM];
+    let problem = files::load(rt, problem, &mut problem_room).ok();
+    let theory = files::load(rt, theory, &mut theory_room).ok();
+    let derivation = files::load(rt, derivation, &mut derivation_room).ok();
+    let claim = files::load(rt, claim, &mut claim_room).ok();
+    match Texts::all(problem, theory, derivation, claim) {
+        Ok(texts) => check_texts(rt, texts),
+        Err(file) => say::unread(rt, file),
     }
-    check_texts(
-        rt,
-        &problem_text[..p.size],
-        &theory_text[..t.size],
-        &derivation_text[..d.size],
-        &claim_text[..c.size],
-    )
 }

@@ -1,29 +1,23 @@
 // What is printed: lines of a word and a number.
+use crate::input::File;
 use demands::answer::Answer;
 use std::io::Result;
 
-fn word(rt: &impl Print, w: &[u8]) -> Result<()> {
-    rt.write_all(w)
-}
-
-fn counted(rt: &impl Print, w: &[u8], n: u64) -> Result<()> {
-    word(rt, w)?;
-    rt.println(n)
-}
-
-pub fn unread(rt: &impl Print, file: u64) -> Result<()> {
-    word(rt, b"result=unread\n")?;
-    counted(rt, b"file=", file)
+pub fn unread(rt: &impl Print, file: File) -> Result<()> {
+    let number = file.number();
+    println!(rt; "result=unread\nfile={number}")
 }
 
 pub fn answer(rt: &impl Print, answer: Answer) -> Result<()> {
-    if answer.number == 0 {
-        word(rt, b"result=accepted\n")?;
-        counted(rt, b"rules=", answer.rules as u64)?;
-        return counted(rt, b"formulas=", answer.formulas as u64);
+    let Answer {
+        number,
+        file,
+        line,
+        rules,
+        formulas,
+    } = answer;
+    if number == 0 {
+        return println!(rt; "result=accepted\nrules={rules}\nformulas={formulas}");
     }
-    word(rt, b"result=refused\n")?;
-    counted(rt, b"number=", answer.number as u64)?;
-    counted(rt, b"file=", answer.file as u64)?;
-    counted(rt, b"line=", answer.line as u64)
+    println!(rt; "result=refused\nnumber={number}\nfile={file}\nline={line}")
 }

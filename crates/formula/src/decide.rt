@@ -1,15 +1,13 @@
 // Which rules fit the formula at a place, with the truth value of what has one.
-ghost use Rattle.std.specs.Prelude.{◌≡◌, ◌≤◌, ◌<◌, length, drop};
-ghost use Rattle.text.specs.memory.Sizes.{InWork, FewElements};
-ghost use Rattle.formula.specs.memory.Deciding.{sign_fit, junction_fit, negated_fit, is_negation, negation_fit, quantifier_fit, value_fit, input_fit, evaluation_fit, rule_fit};
+ghost use Rattle.std.specs.Prelude.{◌≡◌, ◌≤◌, length, drop};
+ghost use Rattle.formula.specs.memory.Deciding.{junction_fit, negation_fit, quantifier_fit, value_fit, input_fit, evaluation_fit, rule_fit};
 
 use derivation::rule_line::Rule;
-use guards::guard::evaluate;
-use table::table::Table;
+use guards::guard::Guards;
 use text::size::VARIABLE_COUNT;
-use words::word::{Kind, Sign, are_elements, kind_of, peek};
+use words::word::{Kind, Sign, are_elements, peek};
 
-// What a rule makes of a formula.
+// What a rule makes of a formula that it fits.
 #[derive(Clone, Copy)]
 pub enum Fit {
     // A truth value takes its place.
@@ -18,196 +16,88 @@ pub enum Fit {
     Junction { every: bool },
     // It is the quantifier that is instantiated.
     Quantifier,
-    // The rule does not fit: number 13.
-    Misfit,
 }
 
-fn sign_fit(every: bool, sign: Sign) -> Fit
-    ensures { result ≡ sign_fit every sign }
-{
-    match sign {
-        Sign::Negation => Fit::Misfit,
-        Sign::Implies => Fit::Misfit,
-        Sign::ImpliedBy => Fit::Misfit,
-        Sign::Equivalent => Fit::Misfit,
-        Sign::Junction { every: side } => {
-            if every == side {
-                return Fit::Junction { every };
-            }
-            Fit::Misfit
-        }
-    }
-}
-
-// SNAND for an `&`, SNOR for an `|`.
-fn junction_fit(every: bool, kind: Kind) -> Fit
+// SNAND for an `&`, SNOR for an `|`: `every`, as in the kind of the word.
+fn junction_fit(every: bool, kind: Kind) -> Option<Fit>
     ensures { result ≡ junction_fit every kind }
 {
     match kind {
-        Kind::Truth(_) => Fit::Misfit,
-        Kind::Atom {
-            predicate: _,
-            terms: _,
-        } => Fit::Misfit,
-        Kind::Equality => Fit::Misfit,
-        Kind::Connective { sign, parts: _ } => sign_fit(every, sign),
-        Kind::Quantifier {
-            every: _,
-            variable: _,
-        } => Fit::Misfit,
-        Kind::Term => Fit::Misfit,
-    }
-}
-
-fn negated_fit(kind: Kind) -> Fit
-    ensures { result ≡ negated_fit kind }
-{
-    match kind {
-        Kind::Truth(b) => Fit::Value(!b),
-        Kind::Atom {
-            predicate: _,
-            terms: _,
-        } => Fit::Misfit,
-        Kind::Equality => Fit::Misfit,
-        Kind::Connective { sign: _, parts: _ } => Fit::Misfit,
-        Kind::Quantifier {
-            every: _,
-            variable: _,
-        } => Fit::Misfit,
-        Kind::Term => Fit::Misfit,
-    }
-}
-
-fn is_negation(sign: Sign) -> bool
-    ensures { result ≡ is_negation sign }
-{
-    match sign {
-        Sign::Negation => true,
-        Sign::Implies => false,
-        Sign::ImpliedBy => false,
-        Sign::Equivalent => false,
-        Sign::Junction { every: _ } => false,
+        Kind::Connective {
+            sign: Sign::Junction { every: side },
+            ..
+        } if side == every => Some(Fit::Junction { every }),
+        _ => None,
     }
 }
 
 // STN: `~` of one part, which is a truth value.
-fn negation_fit(kind: Kind, first: Kind) -> Fit
+fn negation_fit(kind: Kind, first: Kind) -> Option<Fit>
     ensures { result ≡ negation_fit kind first }
 {
-    match kind {
-        Kind::Truth(_) => Fit::Misfit,
-        Kind::Atom {
-            predicate: _,
-            terms: _,
-        } => Fit::Misfit,
-        Kind::Equality => Fit::Misfit,
-        Kind::Connective { sign, parts } => {
-            if !is_negation(sign) {
-                return Fit::Misfit;
-            }
-            if parts == 1 {
-                return negated_fit(first);
-            }
-            Fit::Misfit
-        }
-        Kind::Quantifier {
-            every: _,
-            variable: _,
-        } => Fit::Misfit,
-        Kind::Term => Fit::Misfit,
+    match (kind, first) {
+        (
+            Kind::Connective {
+                sign: Sign::Negation,
+                parts: 1,
+            },
+            Kind::Truth(b),
+        ) => Some(Fit::Value(!b)),
+        _ => None,
     }
 }
 
 // IQ: a quantifier.
-fn quantifier_fit(kind: Kind) -> Fit
+fn quantifier_fit(kind: Kind) -> Option<Fit>
     ensures { result ≡ quantifier_fit kind }
 {
     match kind {
-        Kind::Truth(_) => Fit::Misfit,
-        Kind::Atom {
-            predicate: _,
-            terms: _,
-        } => Fit::Misfit,
-        Kind::Equality => Fit::Misfit,
-        Kind::Connective { sign: _, parts: _ } => Fit::Misfit,
-        Kind::Quantifier {
-            every: _,
-            variable: _,
-        } => Fit::Quantifier,
-        Kind::Term => Fit::Misfit,
+        Kind::Quantifier { .. } => Some(Fit::Quantifier),
+        _ => None,
     }
 }
 
-// The value of an atom or equality of some terms, if they are elements.
-fn value_fit(work: &[u32], at: usize, terms: u32, table: Table, rows: &[u32]) -> Fit
-    requires { (at ≤ length work.now) × InWork work.now × FewElements table.domain × (terms ≤ 4) }
-    ensures { result ≡ value_fit table rows.now terms (drop at work.now) }
+// The value of an atom or equality of some terms, if they are elements. The place stays beside the guards, as their own methods take it.
+#[tactic(auto, using(crate::proofs::memory::Deciding::value_tested))]
+fn value_fit(guards: &Guards, at: usize, terms: u32) -> Option<Fit>
+    requires { (at ≤ length guards.now.work.now) × (terms ≤ 4) }
+    ensures { result ≡ value_fit guards.now.structure.now.table.now guards.now.structure.now.rows.now terms (drop at guards.now.work.now) }
 {
-    if !are_elements(work, at + 1, terms) {
-        return Fit::Misfit;
+    if !are_elements(guards.work, at + 1, terms) {
+        return None;
     }
     let values = [0u8; VARIABLE_COUNT];
-    Fit::Value(evaluate(work, at, 1, values, table, rows))
-}
-
-// The value of an atom of an input predicate.
-fn input_fit(work: &[u32], at: usize, predicate: u32, terms: u32, table: Table, rows: &[u32]) -> Fit
-    requires { (at ≤ length work.now) × InWork work.now × FewElements table.domain }
-    ensures { result ≡ input_fit table rows.now predicate terms (drop at work.now) }
-{
-    if predicate < table.inputs {
-        return value_fit(work, at, terms % 4, table, rows);
-    }
-    Fit::Misfit
+    Some(Fit::Value(guards.evaluate(at, 1, values)))
 }
 
 // EPRED, where some terms are asked for: an atom of one or more, or an equality. EPROP, where none are: an atom of none.
-fn evaluation_fit(
-    some: bool,
-    kind: Kind,
-    work: &[u32],
-    at: usize,
-    table: Table,
-    rows: &[u32],
-) -> Fit
-    requires { (at ≤ length work.now) × InWork work.now × FewElements table.domain }
-    ensures { result ≡ evaluation_fit table rows.now some kind (drop at work.now) }
+// The atom is of an input predicate. `some` is a test of the count of terms, compared as it is; an enum would be turned into it.
+fn evaluation_fit(some: bool, kind: Kind, guards: &Guards, at: usize) -> Option<Fit>
+    requires { at ≤ length guards.now.work.now }
+    ensures { result ≡ evaluation_fit guards.now.structure.now.table.now guards.now.structure.now.rows.now some kind (drop at guards.now.work.now) }
 {
+    let inputs = guards.structure.table.inputs;
     match kind {
-        Kind::Truth(_) => Fit::Misfit,
-        Kind::Atom { predicate, terms } => {
-            if some == (terms > 0) {
-                return input_fit(work, at, predicate, terms, table, rows);
-            }
-            Fit::Misfit
+        Kind::Atom { predicate, terms } if some == (terms > 0) && predicate < inputs => {
+            value_fit(guards, at, terms % 4)
         }
-        Kind::Equality => {
-            if some {
-                return value_fit(work, at, 2, table, rows);
-            }
-            Fit::Misfit
-        }
-        Kind::Connective { sign: _, parts: _ } => Fit::Misfit,
-        Kind::Quantifier {
-            every: _,
-            variable: _,
-        } => Fit::Misfit,
-        Kind::Term => Fit::Misfit,
+        Kind::Equality if some => value_fit(guards, at, 2),
+        _ => None,
     }
 }
 
-// What a rule makes of the formula at a place.
-pub fn rule_fit(rule: Rule, work: &[u32], at: usize, table: Table, rows: &[u32]) -> Fit
-    requires { (at ≤ length work.now) × InWork work.now × FewElements table.domain }
-    ensures { result ≡ rule_fit table rows.now rule (drop at work.now) }
+// What a rule makes of the formula at a place; none where it does not fit, number 13.
+pub fn rule_fit(rule: Rule, guards: &Guards, at: usize) -> Option<Fit>
+    requires { at ≤ length guards.now.work.now }
+    ensures { result ≡ rule_fit guards.now.structure.now.table.now guards.now.structure.now.rows.now rule (drop at guards.now.work.now) }
 {
-    let kind = kind_of(peek(work, at));
+    let kind = Kind::from(peek(guards.work, at));
     match rule {
         Rule::Snand => junction_fit(true, kind),
         Rule::Snor => junction_fit(false, kind),
-        Rule::Stn => negation_fit(kind, kind_of(peek(work, at + 1))),
-        Rule::Epred => evaluation_fit(true, kind, work, at, table, rows),
-        Rule::Eprop => evaluation_fit(false, kind, work, at, table, rows),
+        Rule::Stn => negation_fit(kind, Kind::from(peek(guards.work, at + 1))),
+        Rule::Epred => evaluation_fit(true, kind, guards, at),
+        Rule::Eprop => evaluation_fit(false, kind, guards, at),
         Rule::Iq => quantifier_fit(kind),
     }
 }

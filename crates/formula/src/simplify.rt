@@ -24,19 +24,18 @@ fn truth_count(work: &[u32], at: usize, count: u32, value: bool) -> u32
 {
     let sought = truth_word(value);
     let mut i = at;
-    let mut pending = count;
     let mut found: u32 = 0;
-    while pending > 0 {
+    for _part in 0..count {
         if peek(work, i) == sought {
             found += 1;
         }
         i = past(work, i, 1);
-        pending -= 1;
     }
     found
 }
 
 // What is left of the connective of some parts at a place.
+#[tactic(auto, unfolding(crate::specs::memory::Simplified::simplification))]
 fn simplification_at(work: &[u32], at: usize, parts: u32, every: bool) -> Simplified
     requires { (at ≤ length work.now) × InWork work.now }
     ensures { (result ≡ simplification every parts (drop at work.now)) × Fewer parts result }
@@ -51,16 +50,6 @@ fn simplification_at(work: &[u32], at: usize, parts: u32, every: bool) -> Simpli
     Simplified::Parts(stay)
 }
 
-fn copy_unless(work: &mut [u32], dropped: bool, at: usize, end: usize, to: usize) -> usize
-    requires { Behind work.old at end to }
-    ensures { Stores work.old to (cond dropped [] (slice at end work.old)) result work.new }
-{
-    if dropped {
-        return to;
-    }
-    copy(work, at, end, to)
-}
-
 // Copies the formulas of a range but for those that are a truth value.
 fn copy_others(work: &mut [u32], at: usize, end: usize, count: u32, value: bool, to: usize) -> usize
     requires { Behind work.old at end to × (to ≤ 1000001) }
@@ -68,14 +57,13 @@ fn copy_others(work: &mut [u32], at: usize, end: usize, count: u32, value: bool,
 {
     let unwanted = truth_word(value);
     let mut i = at;
-    let mut pending = count;
     let mut j = to;
-    while pending > 0 {
-        let dropped = peek(&work[..end], i) == unwanted;
+    for _part in 0..count {
         let next = past(&work[..end], i, 1);
-        j = copy_unless(work, dropped, i, next, j);
+        if peek(&work[..end], i) != unwanted {
+            j = copy(work, i, next, j);
+        }
         i = next;
-        pending -= 1;
     }
     j
 }

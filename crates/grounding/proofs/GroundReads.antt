@@ -1,8 +1,10 @@
 -- The ground theory in memory is the definition's: the theory that was read begins the replay, and what the replay comes to in memory is what it comes to.
 -- Assumes nothing.
-use Prim.Native.Nat.{ℕ, zero, suc, ◌+◌, ◌-◌, ◌≤◌}
+use Prim.Native.Nat.{ℕ, zero, suc, ◌+◌, ◌-◌, ◌≤◌, ◌<◌}
 use native.Mathlib.Omega.{arith}
-use mathlib.Core.Path.{◌≡◌, refl, sym, ap, ap₂, ◌∙◌}
+use mathlib.Core.Path.{◌≡◌, refl, sym, ap, ap₂, subst, ◌∙◌}
+use Rattle.std.specs.Prelude.{Result, Ok, Err}
+use Rattle.std.specs.Result.{IsErrAnd, IfOk, IfErr}
 use mathlib.Core.List.{List, ◌++◌}
 use mathlib.Core.Bool.{false}
 use borrow.Rule.Slice.PartMut.{put_mid}
@@ -15,7 +17,6 @@ use Rattle.grammar.specs.Problem.{Problem, problem_of}
 use Rattle.grammar.specs.Valid.{Valid}
 use Rattle.grammar.proofs.Problem.{domain-few}
 use Rattle.grammar.proofs.Outcome.{allowed_done}
-use Rattle.grammar.proofs.Refusals.{Refuses, never, only}
 use Rattle.grammar.proofs.ProblemText.{problem_of_valid}
 use Rattle.logic.specs.Formula.{Formula}
 use Rattle.logic.specs.Meaning.{count_from}
@@ -25,29 +26,38 @@ use Rattle.demands.specs.TheoryText.{theory_of}
 use Rattle.demands.specs.Replay.{Replayed, derivation_from}
 use Rattle.demands.specs.Ground.{Ground}
 use Rattle.demands.specs.Answer.{grounded}
-use Rattle.demands.specs.Refused.{Listed}
 use Rattle.demands.proofs.Theory.{length-names, length-formulas}
-use Rattle.demands.proofs.Refusals.{grounded-refuses}
 use Rattle.table.specs.memory.Table.{problem_in}
 use Rattle.table.specs.declared.table.Table.{Table}
 use Rattle.table.proofs.Tables.{domain_in}
-use Rattle.problem.specs.memory.ProblemLines.{ProblemTold}
-use Rattle.problem.specs.declared.problem_line.ProblemRead.{ProblemRead}
-use Rattle.problem.proofs.ProblemLoop.{problem-done, problem_valid, problem-refused}
+use Rattle.problem.specs.memory.ProblemLines.{ProblemFound}
 use Rattle.terms.specs.memory.Entries.{predicate_index}
 use Rattle.names.proofs.NameLists.{region_length}
+use Rattle.terms.specs.declared.name_table.NameTable.{NameTable}
 use Rattle.theory.specs.memory.TheoryReads.{TheoryFound}
+use Rattle.theory.specs.declared.theory_reader.Theory.{Theory}
 use Rattle.steps.specs.memory.Held.{Held, held, stepped_in, end_in}
-use Rattle.steps.specs.memory.Steps.{live_names, rows_in, held_in, Arranged, Few}
+use Rattle.steps.specs.memory.Steps.{live_names, rows_in, held_in, Arranged}
+use Rattle.steps.specs.memory.Memory.{rows_of, held_of as held_by}
+use Rattle.steps.specs.memory.Fault.{number}
+use Rattle.steps.specs.declared.fault.Fault.{Fault}
+use Rattle.steps.specs.declared.fault.Fault.TheVariants.{Malformed, Name, Path, Rule, Guard, Size, Footer, Clause}
 use Rattle.steps.specs.declared.live.Live.{Live}
 use Rattle.steps.specs.declared.live.Layout.{Layout}
+use Rattle.steps.specs.declared.memory.Memory.{Memory}
 use Rattle.steps.proofs.Regions.{slice_part, within_front, slice_behind, within_end, end-part, slice_before, put_end}
 use Rattle.held.proofs.HeldWords.{held_of}
 use Rattle.held.proofs.HeldEnd.{lines-held}
 use Rattle.held.proofs.HeldReplay.{Ends, held-ends, held-refused, Accepted, end-accepted, end_refused}
 use Rattle.held.proofs.Begins.{Begun, begun}
 use Rattle.grounding.specs.memory.Lines.{JudgedIn}
-use Rattle.grounding.specs.memory.Grounds.{GroundFound, GroundTold, GroundEither, found, stopped, judged_end, ended_in, EndEither, ends, stops, Refuses as Refused, FirstNamed}
+use Rattle.problem.specs.declared.fault.Fault.TheVariants as problem_fault
+use Rattle.reading.specs.declared.fault.Fault.TheVariants as theory_fault
+use Rattle.grounding.specs.declared.fault.Fault.{Fault as TextFault}
+use Rattle.grounding.specs.declared.fault.Fault.TheVariants as text_fault
+use Rattle.grounding.specs.declared.fault.Refusal.{Refusal as Refused}
+use Rattle.grounding.specs.memory.Faults.{number_of, refusal_of}
+use Rattle.grounding.specs.memory.Grounds.{GroundFound, GroundTold, judged_end, ended_in, Ended, FirstNamed}
 use Rattle.grounding.specs.declared.grounding.Grounded.{Grounded}
 
 -- The live formulas of a theory that was read.
@@ -58,19 +68,25 @@ module _ (layout : Layout) (count full : ℕ) (old : List ℕ) (arranged : Arran
   abbrev live : Live
   live = record { count = count; full = full; top = count; ended = false }
 
-  pub first-named : FirstNamed layout count full old live (put_mid layout.names (length old - layout.names) old list)
-  first-named =
-      let room : layout.names ≤ length old = omega (arith, arranged) in
+  abbrev named : List ℕ
+  named = put_mid layout.names (length old - layout.names) old list
+
+  abbrev room : layout.names ≤ length old
+  room = omega (arith, arranged)
+
+  pub first_holds : held_in layout live named ≡ held (take full old) (count_from 1 count) count false
+  first_holds =
       let put = put_end old list layout.names room in
-      let w : take full (put_mid layout.names (length old - layout.names) old list) ≡ take full old = ap (take full) put ∙ within_end old list layout.names room full (omega (arith, arranged)) in
-      let n : take count (drop layout.names (put_mid layout.names (length old - layout.names) old list)) ≡ count_from 1 count =
+      let w : take full named ≡ take full old = ap (take full) put ∙ within_end old list layout.names room full (omega (arith, arranged)) in
+      let n : take count (drop layout.names named) ≡ count_from 1 count =
       ap (λ (s : List ℕ). take count (drop layout.names s)) put ∙ ap (take count) (end-part old list layout.names room)
       ∙ take_at (count_from 1 count) (drop count (take (length old - layout.names) (drop layout.names old))) count (length-count_from count 1) in
-      record {
-        holds = ap₂ (λ (u v : List ℕ). held u v count false) w n;
-        few = record { full = small; count = few };
-        rows = ap (λ (s : List ℕ). slice layout.rows layout.names s) put ∙ slice_before old list layout.names room layout.rows layout.names (omega arith);
-      }
+      ap₂ (λ (u v : List ℕ). held u v count false) w n
+
+  pub first_rows : rows_in layout named ≡ rows_in layout old
+  first_rows =
+      ap (λ (s : List ℕ). slice layout.rows layout.names s) (put_end old list layout.names room)
+      ∙ slice_before old list layout.names room layout.rows layout.names (omega arith)
 
 -- A derivation with its end.
 module _ (table : Table) (rows : List ℕ) (m : Held) (s : Bytes) where
@@ -86,13 +102,28 @@ module _ (table : Table) (rows : List ℕ) (m : Held) (s : Bytes) where
     unfolding ended_in
     ended_zero n f z = rw (e, ← f, z)
 
-    pub ended-number : (n : ℕ) → n ≡ end_in table R.last R.final → (n ≡ 0 → ⊥) → ended_in table rows m s ≡ refused (refusal n 3 (R.rules + 3))
+    ended-number : (n : ℕ) → n ≡ end_in table R.last R.final → (n ≡ 0 → ⊥) → ended_in table rows m s ≡ refused (refusal n 3 (R.rules + 3))
     unfolding ended_in
     ended-number n f some = rw (e, ← f) (pick n some)
       where
         pick : (k : ℕ) → (k ≡ 0 → ⊥) → judged_end k R ≡ refused (refusal k 3 (R.rules + 3))
         pick zero h = absurd (h refl)
         pick (suc k) h = refl
+
+    -- the fault of the end, at the footer's line
+    pub ended-fault : (fault : Fault) → end_in table R.last R.final ≡ number fault → (line : ℕ) → line ≡ R.rules + 3
+        → ended_in table rows m s ≡ refused (refusal (number fault) 3 line)
+    ended-fault fault f line l = ended-number (number fault) (sym f) (positive fault) ∙ rw l
+      where
+        positive : (fault : Fault) → number fault ≡ 0 → ⊥
+        positive Malformed z = omega arith
+        positive Name z = omega arith
+        positive Path z = omega arith
+        positive Rule z = omega arith
+        positive Guard z = omega arith
+        positive Size z = omega arith
+        positive Footer z = omega arith
+        positive Clause z = omega arith
 
   -- how it came to that
   data Way (r : Refusal) : Type 0 where
@@ -138,7 +169,7 @@ module _ (problem theory derivation : Bytes) (table : Table) (rows : List ℕ) (
   pub theory_refused : (r : Refusal) → theory_of P theory ≡ refused r → grounded problem theory derivation ≡ refused r
   theory_refused r e = rw (is_problem, e)
 
-  module _ {count full : ℕ} {names work : List ℕ} (f : TheoryFound P theory (predicate_index problem table) count full names work) where
+  module _ {count full : ℕ} {names : NameTable} {work : List ℕ} (f : TheoryFound P theory (predicate_index problem table) count full names work) where
     abbrev T : List Formula
     T = f.formulas
 
@@ -160,7 +191,7 @@ module _ (problem theory derivation : Bytes) (table : Table) (rows : List ℕ) (
         rw (is_problem, f.is, e.is)
         (end_refused b.naming problem table rows inside valid b.index e.last e.is_sound R.rules R.final (suc n) h (λ z. omega arith))
 
-    end-stopped : (r : Refusal) → ended_in table rows first derivation ≡ refused r → grounded problem theory derivation ≡ refused r
+    pub end-stopped : (r : Refusal) → ended_in table rows first derivation ≡ refused r → grounded problem theory derivation ≡ refused r
     end-stopped r e = pick (way table rows (held_of b.naming (initial T)) derivation r (sym from_first ∙ e))
       where
         pick : Way table rows (held_of b.naming (initial T)) derivation r → grounded problem theory derivation ≡ refused r
@@ -168,49 +199,37 @@ module _ (problem theory derivation : Bytes) (table : Table) (rows : List ℕ) (
         pick (late R g n z i) =
             late_refused R (held-ends b.naming problem table rows inside valid b.index (initial T) b.sound derivation R g) n z ∙ rw i
 
-    module _ (layout : Layout) (r : Grounded) (last : List ℕ) (room : layout.names + 1024 ≤ length last) (same : r.table ≡ table) (few : Few r.live) where
-      ground-found : (final : List ℕ) → EndsAt (record { last = held_in layout r.live last; rules = r.rules; final = final })
-          → end_in table (held_in layout r.live last) final ≡ 0 → GroundFound (grounded problem theory derivation) problem r last
+    module _ (g : Grounded) (same : g.table ≡ table) where
+      abbrev end_live : Live
+      end_live = g.memory.live
+
+      abbrev last : List ℕ
+      last = g.memory.work.now
+
+      ground-found : (final : List ℕ) → EndsAt (record { last = held_by g.memory; rules = g.rules; final = final })
+          → end_in table (held_by g.memory) final ≡ 0 → GroundFound (grounded problem theory derivation) problem g
       ground-found final e z =
           let N = b.naming in
           let s = e.last in
-          let a : Accepted N problem table rows inside valid b.index s e.is_sound r.rules final =
-          end-accepted N problem table rows inside valid b.index s e.is_sound r.rules final (sym (ap (λ (m : Held). end_in table m final) e.holds) ∙ z) in
-          let n : live_names layout r.live last ≡ names_of (live_theory s) = ap (λ (m : Held). m.names) e.holds in
-          let w : take r.live.full last ≡ (held_of N s).words = ap (λ (m : Held). m.words) e.holds in
-          let c : r.live.count ≡ length (names_of (live_theory s)) = sym (region_length last layout.names r.live.count (omega (arith, few))) ∙ ap length n in
+          let a : Accepted N problem table rows inside valid b.index s e.is_sound g.rules final =
+          end-accepted N problem table rows inside valid b.index s e.is_sound g.rules final (sym (ap (λ (m : Held). end_in table m final) e.holds) ∙ z) in
+          let n : live_names g.memory.layout end_live last ≡ names_of (live_theory s) = ap (λ (m : Held). m.names) e.holds in
+          let w : take end_live.full last ≡ (held_of N s).words = ap (λ (m : Held). m.words) e.holds in
+          let c : end_live.count ≡ length (names_of (live_theory s)) =
+          sym (region_length last g.memory.layout.names end_live.count (omega (arith, g.memory.few, g.memory.arranged))) ∙ ap length n in
           record {
-            ground = record { formulas = formulas_of (live_theory s); rules = r.rules };
+            ground = record { formulas = formulas_of (live_theory s); rules = g.rules };
             is = rw (is_problem, f.is, e.is) a.is_done;
             rules = refl;
             formulas = c ∙ length-names (live_theory s) ∙ sym (length-formulas (live_theory s));
             text = sym (lines-held N problem table rows inside valid b.index s e.is_sound a.ground) ∙ rw (same, w, c);
-            few = few;
           }
 
-    pub theory_ground : (layout : Layout) (r : Grounded) (last : List ℕ) → layout.names + 1024 ≤ length last → EndEither (ended_in table rows first derivation) layout table r last
-        → GroundEither (grounded problem theory derivation) problem r last
-    theory_ground layout r last room (ends z same final is few) =
-        let R : Replayed Held = record { last = held_in layout r.live last; rules = r.rules; final = final } in
-        let w = whole table rows (held_of b.naming (initial T)) derivation R (sym from_first ∙ is) in
-        found z (ground-found layout r last room same few final (held-ends b.naming problem table rows inside valid b.index (initial T) b.sound derivation R w.is) w.zero_end)
-    theory_ground layout r last room (stops e) = stopped (end-stopped (refusal r.number r.file r.line) e)
-
--- By the number.
-pub ground-told : (problem theory derivation : Bytes) (r : Grounded) (work : List ℕ) → GroundEither (grounded problem theory derivation) problem r work
-    → GroundTold (grounded problem theory derivation) problem r work
-ground-told problem theory derivation r work (found z g) = record { accepted = λ e. g; refuses = λ some. absurd (some z) }
-ground-told problem theory derivation r work (stopped e) =
-    record { accepted = λ z. absurd (positive (grounded problem theory derivation) e (grounded-refuses {last = 18} (omega arith) problem theory derivation) z); refuses = λ some. e }
-  where
-    positive : (o : Judged Ground) → o ≡ refused (refusal r.number r.file r.line) → Refuses (Listed 18) o → r.number ≡ 0 → ⊥
-    positive o e (never G) z = let y : ◌≡◌ {A = ℕ} 0 1 = cc in omega arith
-    positive o f (only {e} h) z = let y : e ≡ refusal r.number r.file r.line = cc in omega (arith, h.least, ap (λ (q : Refusal). q.number) y)
-
--- a refusal as the code has it
-pub refuses_as : {A : Type 0} {number file line : ℕ} {r : Grounded} → Refused number file line r
-    → ◌≡◌ {A = Judged A} (refused (refusal number file line)) (refused (refusal r.number r.file r.line))
-refuses_as e = rw (e.numbered, e.filed, e.lined)
+      pub theory_ground : Ended (ended_in table rows first derivation) g.rules g.memory → GroundFound (grounded problem theory derivation) problem g
+      theory_ground e =
+          let R : Replayed Held = record { last = held_by g.memory; rules = g.rules; final = e.final } in
+          let w = whole table rows (held_of b.naming (initial T)) derivation R (sym from_first ∙ e.is) in
+          ground-found e.final (held-ends b.naming problem table rows inside valid b.index (initial T) b.sound derivation R w.is) w.zero_end
 
 -- The theory's part of memory, written, and the names behind it.
 module _ (layout : Layout) (old new : List ℕ) (arranged : Arranged layout (length old)) (same : length new ≡ length (take layout.rows old)) where
@@ -221,11 +240,13 @@ module _ (layout : Layout) (old new : List ℕ) (arranged : Arranged layout (len
   mid_rows = slice_behind old new layout.rows (omega (arith, arranged)) same layout.rows layout.names (omega arith) arranged.names
 
   -- the derivation is replayed on the theory's words
-  pub ended-first : (table : Table) (count full : ℕ) → full ≤ 4096 → (live : Live) (work : List ℕ) → FirstNamed layout count full mid live work → (derivation : Bytes)
-      → ended_in table (rows_in layout work) (held_in layout live work) derivation ≡ ended_in table (rows_in layout old) (held (take full new) (count_from 1 count) count false) derivation
-  ended-first table count full small live work n derivation =
-      let w : take full mid ≡ take full new = within_front old new layout.rows (omega (arith, arranged)) same full (omega (arith, arranged)) in
-      ap₂ (λ (r : List ℕ) (m : Held). ended_in table r m derivation) (n.rows ∙ mid_rows) (n.holds ∙ ap (λ (s : List ℕ). held s (count_from 1 count) count false) w)
+  pub ended-first : (table : Table) (theory : Theory) → theory.full ≤ 4096 → (memory : Memory) → FirstNamed layout theory mid memory → (derivation : Bytes)
+      → ended_in table (rows_of memory) (held_by memory) derivation
+      ≡ ended_in table (rows_in layout old) (held (take theory.full new) (count_from 1 theory.count) theory.count false) derivation
+  ended-first table theory small memory n derivation =
+      let w : take theory.full mid ≡ take theory.full new = within_front old new layout.rows (omega (arith, arranged)) same theory.full (omega (arith, arranged)) in
+      ap₂ (λ (r : List ℕ) (m : Held). ended_in table r m derivation) (n.rows ∙ mid_rows)
+      (n.holds ∙ ap (λ (s : List ℕ). held s (count_from 1 theory.count) theory.count false) w)
 
 -- the rows' part of memory, written
 pub rows_read : (layout : Layout) (old new : List ℕ) → Arranged layout (length old) → length new ≡ length (take (layout.names - layout.rows) (drop layout.rows old))
@@ -237,17 +258,44 @@ rows_read layout old new arranged same =
     sym (slice_part (put_mid layout.rows n old new) layout.rows layout.names arranged.names)
     ∙ ap (take n) (drop_at (take layout.rows old) _ layout.rows (length-take-le layout.rows old (omega (arith, arranged)))) ∙ take_at new _ n k
 
--- A problem that was read, or not.
-module _ (problem theory derivation : Bytes) (rows : List ℕ) (r : ProblemRead) (told : ProblemTold problem rows r) where
-  pub problem-stopped : (r.number ≡ 0 → ⊥) → (g : Grounded) (work : List ℕ) → Refused r.number 1 r.line g → GroundTold (grounded problem theory derivation) problem g work
-  problem-stopped some g work e =
-      record {
-        accepted = λ z. absurd (some (sym e.numbered ∙ z));
-        refuses = λ other. rw (problem-refused problem rows r told some, e.numbered, e.filed, e.lined);
-      }
+-- A problem that was read.
+module _ {problem : Bytes} {rows : List ℕ} {table : Table} (read : ProblemFound problem rows table) where
+  pub problem-small : table.domain ≤ 64
+  problem-small =
+      rw (domain_in problem table rows read.inside) at (domain-few (allowed_done Valid (problem_of problem) (problem_in problem table rows) (problem_of_valid problem) read.is))
 
-  pub problem-small : r.number ≡ 0 → r.table.domain ≤ 64
-  problem-small z = rw (domain_in problem r.table rows told.inside) at (domain-few (problem_valid problem rows r told z))
+  pub problem_read : (other : List ℕ) → other ≡ rows → problem_of problem ≡ done (problem_in problem table other)
+  problem_read other e = read.is ∙ rw e
 
-  pub problem_read : r.number ≡ 0 → (other : List ℕ) → other ≡ rows → problem_of problem ≡ done (problem_in problem r.table other)
-  problem_read z other e = problem-done problem rows r told z ∙ rw e
+-- A refusal is handed on.
+pub handed_on : {A E : Type 0} (T : Result A E → Type 0) (r : Result A E) (e : E) → IsErrAnd r (λ x. x ≡ e) → T (Err e) → T r
+handed_on T (Ok a) e gives t = absurd gives
+handed_on T (Err f) e gives t = subst (λ x. T (Err x)) (sym gives) t
+
+-- What is told of the ground theory, by its number: the result is found, or the refusal has a number.
+module _ (judged : Judged Ground) (problem : Bytes) where
+  pub record Told (r : Result Grounded Refused) : Type 0 where
+    pub accepted : IfOk r (GroundFound judged problem)
+    pub refuses : IfErr r (λ e. judged ≡ refused (refusal_of e))
+    pub positive : IfErr r (λ e. 0 < number_of e.fault)
+
+  pub ground-told : (r : Result Grounded Refused) → GroundTold judged problem r → Told r
+  ground-told (Ok g) t = record { accepted = t; refuses = tt; positive = tt }
+  ground-told (Err e) t = record { accepted = tt; refuses = t; positive = numbered e.fault }
+    where
+      numbered : (f : TextFault) → 0 < number_of f
+      numbered (text_fault.Problem problem_fault.Malformed) = omega arith
+      numbered (text_fault.Problem problem_fault.Unfit) = omega arith
+      numbered (text_fault.Theory theory_fault.Malformed) = omega arith
+      numbered (text_fault.Theory theory_fault.Deep) = omega arith
+      numbered (text_fault.Theory theory_fault.Unnamed) = omega arith
+      numbered (text_fault.Theory theory_fault.Unnormal) = omega arith
+      numbered (text_fault.Theory theory_fault.Over) = omega arith
+      numbered (text_fault.Derivation Malformed) = omega arith
+      numbered (text_fault.Derivation Name) = omega arith
+      numbered (text_fault.Derivation Path) = omega arith
+      numbered (text_fault.Derivation Rule) = omega arith
+      numbered (text_fault.Derivation Guard) = omega arith
+      numbered (text_fault.Derivation Size) = omega arith
+      numbered (text_fault.Derivation Footer) = omega arith
+      numbered (text_fault.Derivation Clause) = omega arith

@@ -1,38 +1,53 @@
 // The end of a derivation: 16 and 17.
-ghost use Rattle.std.specs.Prelude.{◌≡◌, ◌+◌, ◌≤◌, length, take, drop};
+ghost use Rattle.std.specs.Prelude.{ℕ, ◌≤◌, length};
+ghost use Rattle.text.specs.memory.Sizes.{InWork};
 ghost use Rattle.text.specs.memory.Numbers.{numbers_at};
-ghost use Rattle.text.specs.memory.Sizes.{ShortText, InWork, NearNumbers};
 ghost use Rattle.steps.specs.memory.Held.{held, end_in};
-ghost use Rattle.steps.specs.memory.Steps.{Few};
+ghost use Rattle.steps.specs.memory.Memory.{held_of};
+ghost use Rattle.grounding.specs.memory.Grounds.{EndJudged};
 
-use clauses::clause::are_clauses_at;
+use clauses::clause::Formulas;
 use names::names::are_listed;
-use steps::live::Live;
+use steps::fault::Fault;
+use steps::memory::Memory;
 use table::table::Table;
+use text::number::Numbers;
 use text::size::LEVEL_COUNT;
 
-// 16 where the names of the text are not those of the live formulas, which stand from `start` on; 17 where a formula is no ground clause; 0 otherwise.
-pub fn end_number(
+// 16 where the names of the text are not those of the live formulas; 17 where a formula is no ground clause, unless UNSAT was.
+#[tactic(auto, unfolding(steps::specs::memory::Held::end_in))]
+pub fn judge_end(
     text: &[u8],
-    names: usize,
-    many: usize,
-    work: &[u32],
-    start: usize,
-    live: Live,
-    table: Table,
-) -> u32
-    requires { ShortText text.now × NearNumbers names many × Few live × (live.full ≤ start) × (start + live.count ≤ length work.now) × InWork work.now }
-    ensures { result ≡ end_in table (held (take live.full work.now) (take live.count (drop start work.now)) live.top live.ended) (numbers_at text.now names many) }
+    names: Numbers,
+    table: &Table,
+    words: &[u32],
+    live: &[u32],
+    ended: bool,
+) -> Result<(), Fault>
+    requires { InWork words.now × (length live.now ≤ 1024) }
+    ensures { (top : ℕ) → EndJudged (end_in table.now (held words.now live.now top ended) (numbers_at text.now names.at names.many)) result }
 {
-    if !are_listed(text, names, many, work, start, live.count) {
-        return 16;
+    if !are_listed(text, names, live) {
+        return Err(Fault::Footer);
     }
-    if live.ended {
-        return 0;
+    if ended {
+        return Ok(());
     }
-    let full = live.full;
-    if are_clauses_at(&work[..full], 0, LEVEL_COUNT, live.count as u32, table) {
-        return 0;
+    let formulas = Formulas { work: words, table };
+    if !formulas.are_clauses(0, LEVEL_COUNT, live.len() as u32) {
+        return Err(Fault::Clause);
     }
-    17
+    Ok(())
+}
+
+// The same of the live formulas in memory.
+pub fn judge(text: &[u8], names: Numbers, table: &Table, memory: &Memory) -> Result<(), Fault>
+    ensures { EndJudged (end_in table.now (held_of memory.now) (numbers_at text.now names.at names.many)) result }
+{
+    let full = memory.live.full;
+    let start = memory.layout.names;
+    let end = start + memory.live.count;
+    let words = &memory.work[..full];
+    let live = &memory.work[start..end];
+    judge_end(text, names, table, words, live, memory.live.ended)
 }

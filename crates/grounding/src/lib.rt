@@ -2,6 +2,6 @@
 #![tactic(auto)]
 
 pub mod ending;
+pub mod fault;
 pub mod grounding;
-pub mod heading;
 pub mod replaying;

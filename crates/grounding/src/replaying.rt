@@ -1,213 +1,109 @@
 // The replay of a derivation, line by line: 10 to 15.
-ghost use Rattle.std.specs.Prelude.{◌≡◌, ◌≤◌, ◌<◌, length};
-ghost use Rattle.demands.specs.Replay.{among, derivation_from};
-ghost use Rattle.text.specs.memory.Sizes.{ShortText, FewElements, FewNumbers};
-ghost use Rattle.derivation.specs.memory.RuleLines.{make_of, position_at};
-ghost use Rattle.steps.specs.memory.Held.{Held, stepped_in};
-ghost use Rattle.steps.specs.memory.Steps.{rows_in, held_in, Arranged, Few, ToldStep};
-ghost use Rattle.grounding.specs.memory.Lines.{JudgedIn, GoingIn, ToldMoved, ToldReplayed, moved_by};
+ghost use Rattle.std.specs.Prelude.{◌≡◌, ◌≤◌, length, IfErr};
+ghost use Rattle.demands.specs.Replay.{derivation_from};
+ghost use Rattle.text.specs.memory.Sizes.{ShortText, FewElements};
+ghost use Rattle.derivation.specs.memory.RuleLines.{rule_line_in, RuleLineBefore};
+ghost use Rattle.steps.specs.memory.Held.{stepped_in};
+ghost use Rattle.steps.specs.memory.Memory.{rows_of, held_of, Kept, ToldStep};
+ghost use Rattle.grounding.specs.memory.Lines.{derived_in, Replaying, ToldReplayed};
 
-use crate::heading::{Headed, heading_line};
-use derivation::reader::read_line;
-use derivation::rule_line::{AtPosition, LineRead};
-use steps::live::{Layout, Live, Step};
-use steps::rewriting::rewritten;
-use steps::whole::{refuted, removed, split};
+use derivation::reader::Reader;
+use derivation::rule_line::{Line, RuleLine};
+use steps::fault::Fault;
+use steps::memory::Memory;
+use steps::position::TextPosition;
 use table::table::Table;
+use text::number::Numbers;
 
-// What a derivation comes to: the live formulas, the count of rule lines, the footer's line and its names; or a number and a line.
+// What a derivation comes to: the count of its rule lines, and the footer's line and names. The live formulas are in memory.
 #[derive(Clone, Copy)]
-pub enum Replayed {
-    Done {
-        live: Live,
-        rules: u32,
-        line: u32,
-        names: usize,
-        many: usize,
-    },
-    Refused {
-        number: u32,
-        line: u32,
-    },
+pub struct Replayed {
+    pub rules: u32,
+    pub line: u32,
+    pub names: Numbers,
 }
 
-// What a line comes to: the live formulas after it and the place behind it; the footer; or a number and the line's own.
+// The number of a line that is refused, and what it is refused with.
 #[derive(Clone, Copy)]
-enum Moved {
-    On {
-        live: Live,
-        next: usize,
-    },
-    Footer {
-        names: usize,
-        many: usize,
-        next: usize,
-    },
-    Refused {
-        number: u32,
-        line: u32,
-    },
+pub struct Refusal {
+    pub fault: Fault,
+    pub line: u32,
 }
 
-fn moved_by(step: Step, next: usize, line: u32) -> Moved
-    ensures { result ≡ moved_by step next line }
+// A line that is none of a derivation's.
+fn malformed(line: u32) -> Refusal
+    ensures { (result.fault ≡ Fault.Malformed) × (result.line ≡ line) }
 {
-    match step {
-        Step::Done(live) => Moved::On { live, next },
-        Step::Refused(number) => Moved::Refused { number, line },
+    Refusal {
+        fault: Fault::Malformed,
+        line,
     }
 }
 
-// A rule line that ends with its position, done.
-fn step_at(
-    kind: AtPosition,
-    text: &[u8],
-    work: &mut [u32],
-    layout: Layout,
-    live: Live,
-    table: Table,
-    name: u32,
-    path: usize,
-    steps: usize,
-) -> Step
-    requires { Arranged layout (length work.old) × Few live × FewElements table.domain × (path ≤ length text.now) × ShortText text.now × FewNumbers steps }
-    ensures { ToldStep (stepped_in table (rows_in layout work.old) (held_in layout live work.old) (make_of kind (position_at text.now name path steps))) layout work.old result work.new }
+// A rule line, done.
+#[tactic(auto, unfolding(steps::specs::memory::Held::stepped_in))]
+fn step(memory: &mut Memory, text: &[u8], table: &Table, line: RuleLine) -> Result<(), Fault>
+    requires { FewElements table.now.domain × ShortText text.now × RuleLineBefore line (length text.now) }
+    ensures told { ToldStep (stepped_in table.now (rows_of memory.old) (held_of memory.old) (rule_line_in text.now line)) memory.old result memory.new }
+    ensures kept { Kept memory.old memory.new }
+    ensures same { IfErr result (λ f. memory.new.live ≡ memory.old.live) }
 {
-    match kind {
-        AtPosition::Rewrite(rule) => {
-            rewritten(text, work, layout, live, table, rule, name, path, steps)
+    match line {
+        RuleLine::Rewrite(rule, position) => {
+            memory.rewrite(table, rule, &TextPosition { text, position })
         }
-        AtPosition::Unsat => refuted(text, work, layout, live, name, path, steps),
-        AtPosition::Trivial => removed(text, work, layout, live, name, path, steps),
+        RuleLine::Unsat(position) => memory.refute(&TextPosition { text, position }),
+        RuleLine::Trivial(position) => memory.remove(&TextPosition { text, position }),
+        RuleLine::Splitc(position, names) => memory.split(&TextPosition { text, position }, names),
     }
 }
 
-// The line at a place, under its number, read and applied.
-fn replay_line(
-    text: &[u8],
-    at: usize,
-    line: u32,
-    work: &mut [u32],
-    layout: Layout,
-    live: Live,
-    table: Table,
-) -> Moved
-    requires { Arranged layout (length work.old) × Few live × FewElements table.domain × (at < length text.now) × ShortText text.now × (3 ≤ line) }
-    ensures { (first : Held) → ToldMoved table (rows_in layout work.old) first layout work.old (held_in layout live work.old) text.now at line result work.new }
-{
-    let numbered = read_line(text, at, line);
-    let read = numbered.read;
-    match read {
-        LineRead::Position {
-            kind,
-            name,
-            path,
-            steps,
-            next,
-        } => moved_by(
-            step_at(kind, text, work, layout, live, table, name, path, steps),
-            next,
-            numbered.line,
-        ),
-        LineRead::Split {
-            name,
-            path,
-            steps,
-            names,
-            many,
-            next,
-        } => moved_by(
-            split(text, work, layout, live, name, path, steps, names, many),
-            next,
-            numbered.line,
-        ),
-        LineRead::Footer { names, many, next } => Moved::Footer { names, many, next },
-        LineRead::Heading { next: _ } => Moved::Refused {
-            number: 10,
-            line: numbered.line,
-        },
-        LineRead::Malformed => Moved::Refused {
-            number: 10,
-            line: numbered.line,
-        },
-    }
-}
-
-// Rule lines and the footer, from a place and a line on; nothing may stand behind the footer.
+// Rule lines and the footer, from the reader's place on; nothing may stand behind the footer.
 fn replay_lines(
-    text: &[u8],
-    at: usize,
-    from: u32,
-    work: &mut [u32],
-    layout: Layout,
-    first: Live,
-    table: Table,
-) -> Replayed
-    requires { Arranged layout (length work.old) × Few first × FewElements table.domain × (at ≤ length text.now) × ShortText text.now × (from ≡ 3) }
-    ensures { (start : Held) (whole : JudgedIn) → GoingIn table (rows_in layout work.old) start whole text.now at from (among (held_in layout first work.old) 0) → ToldReplayed whole layout (rows_in layout work.old) text.now result work.new }
+    reader: &mut Reader,
+    table: &Table,
+    memory: &mut Memory,
+) -> Result<Replayed, Refusal>
+    requires small { FewElements table.now.domain × ShortText reader.old.text.now × (reader.old.at ≤ length reader.old.text.now) }
+    requires replaying { Replaying table.now memory.old reader.old.text.now reader.old.at reader.old.line memory.old }
+    ensures told { ToldReplayed (derived_in table.now memory.old reader.old.text.now) reader.old.text.now memory.old result memory.new }
+    ensures kept { Kept memory.old memory.new }
 {
-    let mut place = at;
-    let mut line = from;
-    let mut live = first;
-    let mut rules: u32 = 0;
-    while place < text.len() {
-        match replay_line(text, place, line, work, layout, live, table) {
-            Moved::On { live: after, next } => {
-                live = after;
-                place = next;
-                line += 1;
-                rules += 1;
-            }
-            Moved::Footer { names, many, next } => {
-                if next < text.len() {
-                    return Replayed::Refused {
-                        number: 10,
-                        line: line + 1,
-                    };
+    // The lines are as many as the reader finds: up to the footer, or the line that is refused.
+    loop {
+        let line = reader.line as u32;
+        let Some(read) = reader.next_line() else {
+            return Err(malformed(line));
+        };
+        match read {
+            Line::Step(rule_line) => {
+                if let Err(fault) = step(memory, reader.text, table, rule_line) {
+                    return Err(Refusal { fault, line });
                 }
-                return Replayed::Done {
-                    live,
-                    rules,
-                    line,
-                    names,
-                    many,
-                };
             }
-            Moved::Refused {
-                number,
-                line: refused,
-            } => {
-                return Replayed::Refused {
-                    number,
-                    line: refused,
-                };
+            Line::Footer(names) => {
+                if !reader.is_done() {
+                    return Err(malformed(line + 1));
+                }
+                let rules = line - 3;
+                return Ok(Replayed { rules, line, names });
             }
         }
     }
-    Replayed::Refused { number: 10, line }
 }
 
 // A whole derivation.
-pub fn replay_text(
-    text: &[u8],
-    work: &mut [u32],
-    layout: Layout,
-    live: Live,
-    table: Table,
-) -> Replayed
-    requires { Arranged layout (length work.old) × Few live × FewElements table.domain × ShortText text.now }
-    ensures { ToldReplayed (derivation_from (stepped_in table (rows_in layout work.old)) (held_in layout live work.old) text.now) layout (rows_in layout work.old) text.now result work.new }
+pub fn replay_text(text: &[u8], table: &Table, memory: &mut Memory) -> Result<Replayed, Refusal>
+    requires { FewElements table.now.domain × ShortText text.now }
+    ensures told { ToldReplayed (derivation_from (stepped_in table.now (rows_of memory.old)) (held_of memory.old) text.now) text.now memory.old result memory.new }
+    ensures kept { Kept memory.old memory.new }
 {
-    match heading_line(text, 0, 1) {
-        Headed::Behind {
-            next: heading,
-            line,
-        } => match heading_line(text, heading, line) {
-            Headed::Behind { next, line } => {
-                replay_lines(text, next, line, work, layout, live, table)
-            }
-            Headed::Malformed { line } => Replayed::Refused { number: 10, line },
-        },
-        Headed::Malformed { line } => Replayed::Refused { number: 10, line },
-    }
+    let mut reader = Reader::new(text);
+    let Some(()) = reader.version() else {
+        return Err(malformed(1));
+    };
+    let Some(()) = reader.grounder() else {
+        return Err(malformed(2));
+    };
+    replay_lines(&mut reader, table, memory)
 }

@@ -1,98 +1,28 @@
 // Guards: the value of the formula at a place, in the input structure. Parts are taken from the left until one settles the value.
-ghost use Rattle.std.specs.Prelude.{◌≡◌, ◌∷◌, [], false, ◌+◌, ◌*◌, ◌%◌, ◌≤◌, ◌<◌, eqb, length, drop, get_or, set};
+ghost use Rattle.std.specs.Prelude.{◌≡◌, ◌∷◌, [], false, ◌+◌, ◌*◌, ◌%◌, ◌≤◌, ◌<◌, eqb, length, drop, get_or};
 ghost use Rattle.logic.specs.Meaning.{value_of, values_of, connect, join_all};
-ghost use Rattle.text.specs.memory.Sizes.{InWork, FewElements};
+ghost use Rattle.text.specs.memory.Sizes.{InWork};
 ghost use Rattle.table.specs.memory.Table.{packed};
 ghost use Rattle.words.specs.memory.Stored.{index_name, side_of, connective_of, term_of, terms_at};
-ghost use Rattle.guards.specs.memory.Values.{valued, settled_by, settled_first, atom_at, true_at, truths_at, element_at, each_at};
+ghost use Rattle.guards.specs.memory.Values.{valued, settled_first, atom_at, true_at, truths_at, element_at, each_at};
 
-use table::table::Table;
-use text::size::{MOST_VARIABLES, VARIABLE_COUNT};
-use words::tag::ELEMENT;
+use crate::variable::{index, with};
+use table::structure::Structure;
+use text::size::VARIABLE_COUNT;
+use words::tag::Tag;
 use words::walk::past;
-use words::word::{Kind, Sign, kind_of, peek};
-
-fn small(v: u8) -> u32
-    ensures { (result ≡ v) × (result < 256) }
-{
-    v as u32
-}
+use words::word::{Kind, Sign, peek};
 
 // The element that a term's word stands for.
 fn value_of(word: u32, values: [u8; VARIABLE_COUNT]) -> u32
-    ensures { (result ≡ value_of (valued values) (term_of index_name word)) × (result < 256) }
+    ensures value { result ≡ value_of (valued values) (term_of index_name word) }
+    ensures low { result < 256 }
 {
-    let payload = word / 16;
-    if word % 16 == ELEMENT {
-        return payload % 256;
+    if Tag::Element.is_of(word) {
+        word / 16 % 256
+    } else {
+        values[index(word / 16)] as u32
     }
-    let x = (payload % MOST_VARIABLES) as usize;
-    small(values[x])
-}
-
-// The values with one variable bound.
-pub fn with_value(values: [u8; VARIABLE_COUNT], variable: u32, v: u32) -> [u8; VARIABLE_COUNT]
-    requires { v < 256 }
-    ensures { result ≡ set values (variable % 64) v }
-{
-    let x = (variable % MOST_VARIABLES) as usize;
-    let mut inner = values;
-    inner[x] = v as u8;
-    inner
-}
-
-// The number of the row that terms stand for.
-fn row_of(work: &[u32], at: usize, terms: u32, values: [u8; VARIABLE_COUNT]) -> u32
-    requires { at ≤ 16384 }
-    ensures { result ≡ packed (values_of (valued values) (terms_at index_name (terms % 4) (drop at work.now))) }
-{
-    let count = terms % 4;
-    if count == 0 {
-        return 0;
-    }
-    let first = value_of(peek(work, at), values);
-    if count == 1 {
-        return first;
-    }
-    let second = value_of(peek(work, at + 1), values);
-    if count == 2 {
-        return first + 256 * second;
-    }
-    let third = value_of(peek(work, at + 2), values);
-    first + 256 * (second + 256 * third)
-}
-
-fn atom_holds(
-    work: &[u32],
-    at: usize,
-    predicate: u32,
-    terms: u32,
-    values: [u8; VARIABLE_COUNT],
-    table: Table,
-    rows: &[u32],
-) -> bool
-    requires { at ≤ 16384 }
-    ensures { result ≡ atom_at table rows.now values predicate terms (drop at work.now) }
-{
-    let row = row_of(work, at, terms, values);
-    table::table::holds_row(table, rows, predicate % 32, row)
-}
-
-// Whether two terms stand for the same element.
-fn equal_holds(work: &[u32], at: usize, values: [u8; VARIABLE_COUNT]) -> bool
-    requires { at ≤ 16384 }
-    ensures { result ≡ eqb (value_of (valued values) (term_of index_name (get_or work.now at 0))) (value_of (valued values) (term_of index_name (get_or work.now (at + 1) 0))) }
-{
-    let first = value_of(peek(work, at), values);
-    let second = value_of(peek(work, at + 1), values);
-    first == second
-}
-
-// A part's value settles `&` if it is false, `|` if it is true.
-fn settles(every: bool, part: bool) -> bool
-    ensures { result ≡ settled_by every part }
-{
-    if every { !part } else { part }
 }
 
 // Whether the first part's value settles a connective of one part or two.
@@ -103,8 +33,7 @@ fn first_settles(sign: Sign, first: bool) -> bool
         Sign::Negation => true,
         Sign::Implies => !first,
         Sign::ImpliedBy => first,
-        Sign::Equivalent => false,
-        Sign::Junction { every: _ } => false,
+        Sign::Equivalent | Sign::Junction { .. } => false,
     }
 }
 
@@ -114,212 +43,209 @@ fn connected(sign: Sign, first: bool, second: bool) -> bool
 {
     match sign {
         Sign::Negation => !first,
-        Sign::Implies => {
-            if first {
-                return second;
+        Sign::Implies => !first || second,
+        Sign::ImpliedBy => first || !second,
+        Sign::Equivalent => first == second,
+        Sign::Junction { every: true } => first && second,
+        Sign::Junction { every: false } => first || second,
+    }
+}
+
+// Formulas in memory, and the structure in which they have their values.
+#[derive(Clone, Copy)]
+pub struct Guards<'a> {
+    pub work: &'a [u32],
+    pub structure: &'a Structure<'a>,
+    ghost in_work: { InWork work.now },
+}
+
+impl Guards<'_> {
+    // The number of the row that terms stand for.
+    // That the place is within bounds stands at each function, since each call has another place: no field of the struct can hold it.
+    fn row_of(&self, at: usize, terms: u32, values: [u8; VARIABLE_COUNT]) -> u32
+        requires { at ≤ 16384 }
+        ensures { result ≡ packed (values_of (valued values) (terms_at index_name (terms % 4) (drop at self.now.work.now))) }
+    {
+        let first = value_of(peek(self.work, at), values);
+        let second = value_of(peek(self.work, at + 1), values);
+        let third = value_of(peek(self.work, at + 2), values);
+        match terms % 4 {
+            0 => 0,
+            1 => first,
+            2 => first + 256 * second,
+            _ => first + 256 * (second + 256 * third),
+        }
+    }
+
+    #[tactic(auto, unfolding(crate::specs::memory::Values::atom_at))]
+    fn atom_holds(
+        &self,
+        at: usize,
+        predicate: u32,
+        terms: u32,
+        values: [u8; VARIABLE_COUNT],
+    ) -> bool
+        requires { at ≤ 16384 }
+        ensures { result ≡ atom_at self.now.structure.now.table.now self.now.structure.now.rows.now values predicate terms (drop at self.now.work.now) }
+    {
+        let row = self.row_of(at, terms, values);
+        self.structure.holds(predicate % 32, row)
+    }
+
+    // Whether two terms stand for the same element.
+    fn equal_holds(&self, at: usize, values: [u8; VARIABLE_COUNT]) -> bool
+        requires { at ≤ 16384 }
+        ensures { result ≡ eqb (value_of (valued values) (term_of index_name (get_or self.now.work.now at 0))) (value_of (valued values) (term_of index_name (get_or self.now.work.now (at + 1) 0))) }
+    {
+        value_of(peek(self.work, at), values) == value_of(peek(self.work, at + 1), values)
+    }
+
+    // The value of the formula at a place.
+    // That the place is within memory stands at each function, since each call has another place: no field of the struct can hold it.
+    #[tactic(auto, using(crate::proofs::memory::Values::kinds_told))]
+    #[cycle(value)]
+    pub fn evaluate(&self, at: usize, levels: usize, values: [u8; VARIABLE_COUNT]) -> bool
+        requires { at ≤ length self.now.work.now }
+        ensures { result ≡ true_at self.now.structure.now.table.now self.now.structure.now.rows.now levels values (drop at self.now.work.now) }
+    {
+        if levels == 0 || at >= self.work.len() {
+            return false;
+        }
+        let next = at + 1;
+        match Kind::from(self.work[at]) {
+            Kind::Truth(b) => b,
+            Kind::Atom { predicate, terms } => self.atom_holds(next, predicate, terms, values),
+            Kind::Equality => self.equal_holds(next, values),
+            Kind::Connective { sign, parts } => {
+                self.connective_holds(next, levels - 1, sign, parts, values)
             }
-            true
-        }
-        Sign::ImpliedBy => {
-            if first {
-                return true;
+            Kind::Quantifier { every, variable } => {
+                self.each_holds(next, levels - 1, every, variable, values)
             }
-            !second
+            Kind::Term => false,
         }
-        Sign::Equivalent => {
-            if first {
-                return second;
+    }
+
+    // A connective of the parts at a place.
+    #[cycle(value)]
+    fn connective_holds(
+        &self,
+        at: usize,
+        levels: usize,
+        sign: Sign,
+        parts: u32,
+        values: [u8; VARIABLE_COUNT],
+    ) -> bool
+        requires { at ≤ length self.now.work.now }
+        ensures { result ≡ connect (connective_of sign) (truths_at self.now.structure.now.table.now self.now.structure.now.rows.now levels values parts (drop at self.now.work.now)) }
+    {
+        match sign {
+            Sign::Junction { every } => self.parts_hold(at, levels, every, parts, values),
+            _ => self.pair_holds(at, levels, sign, parts, values),
+        }
+    }
+
+    // A connective that goes by the first two parts.
+    #[cycle(value)]
+    fn pair_holds(
+        &self,
+        at: usize,
+        levels: usize,
+        sign: Sign,
+        parts: u32,
+        values: [u8; VARIABLE_COUNT],
+    ) -> bool
+        requires { at ≤ length self.now.work.now }
+        ensures { result ≡ connect (connective_of sign) (get_or (truths_at self.now.structure.now.table.now self.now.structure.now.rows.now levels values parts (drop at self.now.work.now)) 0 false ∷ get_or (truths_at self.now.structure.now.table.now self.now.structure.now.rows.now levels values parts (drop at self.now.work.now)) 1 false ∷ []) }
+    {
+        let first = self.part_holds(at, levels, 0, parts, values);
+        let second = !first_settles(sign, first) && self.part_holds(at, levels, 1, parts, values);
+        connected(sign, first, second)
+    }
+
+    // One of the parts at a place; false, where there are not so many.
+    #[tactic(auto, using(crate::proofs::memory::Values::part_told))]
+    #[cycle(value)]
+    fn part_holds(
+        &self,
+        at: usize,
+        levels: usize,
+        i: u32,
+        parts: u32,
+        values: [u8; VARIABLE_COUNT],
+    ) -> bool
+        requires { at ≤ length self.now.work.now }
+        ensures { result ≡ get_or (truths_at self.now.structure.now.table.now self.now.structure.now.rows.now levels values parts (drop at self.now.work.now)) i false }
+    {
+        i < parts && self.evaluate(past(self.work, at, i as usize), levels, values)
+    }
+
+    // `&` or `|` of the parts at a place: a part settles `&` if it is false, `|` if it is true.
+    #[tactic(auto, using(crate::proofs::memory::Values::parts_told))]
+    #[cycle(value)]
+    fn parts_hold(
+        &self,
+        at: usize,
+        levels: usize,
+        every: bool,
+        parts: u32,
+        values: [u8; VARIABLE_COUNT],
+    ) -> bool
+        requires { at ≤ length self.now.work.now }
+        ensures { result ≡ join_all (side_of every) (truths_at self.now.structure.now.table.now self.now.structure.now.rows.now levels values parts (drop at self.now.work.now)) }
+    {
+        let mut place = at;
+        for _ in 0..parts {
+            let part = self.evaluate(place, levels, values);
+            if part != every {
+                return part;
             }
-            !second
+            place = past(self.work, place, 1);
         }
-        Sign::Junction { every } => {
-            if settles(every, first) {
-                return first;
+        every
+    }
+
+    // A quantifier over the guard and the body at a place: elements in turn.
+    #[tactic(auto, using(crate::proofs::memory::Values::each_told))]
+    #[cycle(value)]
+    fn each_holds(
+        &self,
+        at: usize,
+        levels: usize,
+        every: bool,
+        variable: u32,
+        values: [u8; VARIABLE_COUNT],
+    ) -> bool
+        requires { at ≤ length self.now.work.now }
+        ensures { result ≡ each_at self.now.structure.now.table.now self.now.structure.now.rows.now levels values every variable (drop at self.now.work.now) 1 self.now.structure.now.table.now.domain }
+    {
+        for v in 1..=self.structure.table.domain {
+            let inner = with(values, variable, v as u8);
+            let part = self.element_holds(at, levels, every, inner);
+            if part != every {
+                return part;
             }
-            second
+        }
+        every
+    }
+
+    // One element: the body where the guard holds, and what changes nothing where it does not.
+    #[tactic(auto, using(crate::proofs::memory::Values::element_told))]
+    #[cycle(value)]
+    fn element_holds(
+        &self,
+        at: usize,
+        levels: usize,
+        every: bool,
+        values: [u8; VARIABLE_COUNT],
+    ) -> bool
+        requires { at ≤ length self.now.work.now }
+        ensures { result ≡ element_at self.now.structure.now.table.now self.now.structure.now.rows.now levels values every (drop at self.now.work.now) }
+    {
+        if self.evaluate(at, levels, values) {
+            self.evaluate(past(self.work, at, 1), levels, values)
+        } else {
+            every
         }
     }
-}
-
-// The value of the formula at a place.
-#[cycle(connective_holds_each_holds_element_holds_evaluate_pair_holds_part_holds_parts_hold)]
-pub fn evaluate(
-    work: &[u32],
-    at: usize,
-    levels: usize,
-    values: [u8; VARIABLE_COUNT],
-    table: Table,
-    rows: &[u32],
-) -> bool
-    requires { (at ≤ length work.now) × InWork work.now × FewElements table.domain }
-    ensures { result ≡ true_at table rows.now levels values (drop at work.now) }
-{
-    if levels == 0 {
-        return false;
-    }
-    if at >= work.len() {
-        return false;
-    }
-    let fewer = levels - 1;
-    match kind_of(work[at]) {
-        Kind::Truth(b) => b,
-        Kind::Atom { predicate, terms } => {
-            atom_holds(work, at + 1, predicate, terms, values, table, rows)
-        }
-        Kind::Equality => equal_holds(work, at + 1, values),
-        Kind::Connective { sign, parts } => {
-            connective_holds(work, at + 1, fewer, sign, parts, values, table, rows)
-        }
-        Kind::Quantifier { every, variable } => {
-            each_holds(work, at + 1, fewer, every, variable, values, table, rows)
-        }
-        Kind::Term => false,
-    }
-}
-
-// A connective of the parts at a place.
-#[cycle(connective_holds_each_holds_element_holds_evaluate_pair_holds_part_holds_parts_hold)]
-fn connective_holds(
-    work: &[u32],
-    at: usize,
-    levels: usize,
-    sign: Sign,
-    parts: u32,
-    values: [u8; VARIABLE_COUNT],
-    table: Table,
-    rows: &[u32],
-) -> bool
-    requires { (at ≤ length work.now) × InWork work.now × FewElements table.domain }
-    ensures { result ≡ connect (connective_of sign) (truths_at table rows.now levels values parts (drop at work.now)) }
-{
-    match sign {
-        Sign::Negation => pair_holds(work, at, levels, sign, parts, values, table, rows),
-        Sign::Implies => pair_holds(work, at, levels, sign, parts, values, table, rows),
-        Sign::ImpliedBy => pair_holds(work, at, levels, sign, parts, values, table, rows),
-        Sign::Equivalent => pair_holds(work, at, levels, sign, parts, values, table, rows),
-        Sign::Junction { every } => parts_hold(work, at, levels, every, parts, values, table, rows),
-    }
-}
-
-// A connective that goes by the first two parts.
-#[cycle(connective_holds_each_holds_element_holds_evaluate_pair_holds_part_holds_parts_hold)]
-fn pair_holds(
-    work: &[u32],
-    at: usize,
-    levels: usize,
-    sign: Sign,
-    parts: u32,
-    values: [u8; VARIABLE_COUNT],
-    table: Table,
-    rows: &[u32],
-) -> bool
-    requires { (at ≤ length work.now) × InWork work.now × FewElements table.domain }
-    ensures { result ≡ connect (connective_of sign) (get_or (truths_at table rows.now levels values parts (drop at work.now)) 0 false ∷ get_or (truths_at table rows.now levels values parts (drop at work.now)) 1 false ∷ []) }
-{
-    let first = part_holds(work, at, levels, 0, parts, values, table, rows);
-    if first_settles(sign, first) {
-        return connected(sign, first, false);
-    }
-    let second = part_holds(work, at, levels, 1, parts, values, table, rows);
-    connected(sign, first, second)
-}
-
-// One of the parts at a place; false, where there are not so many.
-#[cycle(connective_holds_each_holds_element_holds_evaluate_pair_holds_part_holds_parts_hold)]
-fn part_holds(
-    work: &[u32],
-    at: usize,
-    levels: usize,
-    i: u32,
-    parts: u32,
-    values: [u8; VARIABLE_COUNT],
-    table: Table,
-    rows: &[u32],
-) -> bool
-    requires { (at ≤ length work.now) × InWork work.now × FewElements table.domain }
-    ensures { result ≡ get_or (truths_at table rows.now levels values parts (drop at work.now)) i false }
-{
-    if i >= parts {
-        return false;
-    }
-    let place = past(work, at, i as usize);
-    evaluate(work, place, levels, values, table, rows)
-}
-
-// `&` or `|` of the parts at a place.
-#[cycle(connective_holds_each_holds_element_holds_evaluate_pair_holds_part_holds_parts_hold)]
-fn parts_hold(
-    work: &[u32],
-    at: usize,
-    levels: usize,
-    every: bool,
-    parts: u32,
-    values: [u8; VARIABLE_COUNT],
-    table: Table,
-    rows: &[u32],
-) -> bool
-    requires { (at ≤ length work.now) × InWork work.now × FewElements table.domain }
-    ensures { result ≡ join_all (side_of every) (truths_at table rows.now levels values parts (drop at work.now)) }
-{
-    let mut i = at;
-    let mut pending = parts;
-    while pending > 0 {
-        let part = evaluate(work, i, levels, values, table, rows);
-        if settles(every, part) {
-            return part;
-        }
-        i = past(work, i, 1);
-        pending -= 1;
-    }
-    every
-}
-
-// A quantifier over the guard and the body at a place: elements in turn.
-#[cycle(connective_holds_each_holds_element_holds_evaluate_pair_holds_part_holds_parts_hold)]
-fn each_holds(
-    work: &[u32],
-    at: usize,
-    levels: usize,
-    every: bool,
-    variable: u32,
-    values: [u8; VARIABLE_COUNT],
-    table: Table,
-    rows: &[u32],
-) -> bool
-    requires { (at ≤ length work.now) × InWork work.now × FewElements table.domain }
-    ensures { result ≡ each_at table rows.now levels values every variable (drop at work.now) 1 table.domain }
-{
-    let mut v: u32 = 1;
-    let mut pending = table.domain;
-    while pending > 0 {
-        let inner = with_value(values, variable, v);
-        let part = element_holds(work, at, levels, every, inner, table, rows);
-        if settles(every, part) {
-            return part;
-        }
-        v += 1;
-        pending -= 1;
-    }
-    every
-}
-
-// One element: the body where the guard holds, and what changes nothing where it does not.
-#[cycle(connective_holds_each_holds_element_holds_evaluate_pair_holds_part_holds_parts_hold)]
-fn element_holds(
-    work: &[u32],
-    at: usize,
-    levels: usize,
-    every: bool,
-    values: [u8; VARIABLE_COUNT],
-    table: Table,
-    rows: &[u32],
-) -> bool
-    requires { (at ≤ length work.now) × InWork work.now × FewElements table.domain }
-    ensures { result ≡ element_at table rows.now levels values every (drop at work.now) }
-{
-    if !evaluate(work, at, levels, values, table, rows) {
-        return every;
-    }
-    let body = past(work, at, 1);
-    evaluate(work, body, levels, values, table, rows)
 }

@@ -4,3 +4,4 @@
 pub mod admit;
 pub mod guard;
 pub mod scope;
+pub mod variable;

@@ -26,6 +26,7 @@ use Rattle.table.specs.memory.Table.{position, table_names, problem_in}
 use Rattle.table.specs.declared.table.Table.{Table}
 use Rattle.words.proofs.memory.Naming.{Naming, Storable}
 use Rattle.terms.specs.memory.NameTable.{extended_by, names_in, list_fits}
+use Rattle.terms.specs.declared.name_table.NameTable.{NameTable}
 use Rattle.terms.specs.memory.Entries.{predicate_index}
 use Rattle.terms.proofs.memory.Listing.{table_names_in, problem_naming, storable_known}
 use Rattle.reading.proofs.memory.TheoryLines.{fits-length, fits_members}
@@ -35,7 +36,7 @@ use Rattle.held.proofs.HeldWords.{held_of}
 use Rattle.held.proofs.Held.{held_first, Sound, sound_first}
 
 -- a theory that is found is within its sizes
-module _ {P : Problem} {text : Bytes} {index : Name → ℕ} {count full : ℕ} {names work : List ℕ} (found : TheoryFound P text index count full names work) where
+module _ {P : Problem} {text : Bytes} {index : Name → ℕ} {count full : ℕ} {names : NameTable} {work : List ℕ} (found : TheoryFound P text index count full names work) where
   found-sized : sizes_fit found.formulas ≡ true
   found-sized = and_left (sizes_fit found.formulas) _ found.fits
 
@@ -82,7 +83,7 @@ module _ (problem : Bytes) (table : Table) (rows : List ℕ) (inside : table.inp
       each_storable fs p.1 (each_right _ (variables f) (theory_variables fs) h),
     )
 
-  pub begun : {text : Bytes} {count full : ℕ} {names work : List ℕ} (found : TheoryFound P text (predicate_index problem table) count full names work)
+  pub begun : {text : Bytes} {count full : ℕ} {names : NameTable} {work : List ℕ} (found : TheoryFound P text (predicate_index problem table) count full names work)
       → Begun problem table rows inside valid found.formulas (take full work) count
   begun {text} {count} {full} {names} {work} found =
       let few : length (names_in text names) ≤ 64 = fits-length (names_in text names) found.short in

@@ -7,6 +7,7 @@ use mathlib.Core.Path.{◌≡◌, refl, sym, ap, subst, ◌∙◌}
 use mathlib.Core.List.{List, ◌++◌}
 use mathlib.Core.Bool.{Bool, true, false, cond}
 use lib.Dec.{leb}
+use Rattle.std.specs.Prelude.{Option, Some, None}
 use lib.ListN.{length, drop, length-append}
 use lib.Seq.{take-length, drop-append_seam}
 use Rattle.grammar.specs.Bytes.{Bytes}
@@ -65,15 +66,15 @@ module _ (N : Naming) (text : Bytes) (table : Table) (rows : List ℕ) (inside :
         let less : depth (quantifier t.side t.name t.guard t.body) ≤ 32 = rw t.is at low in
         rw t.is (guard_closed-words N t.side t.name t.guard t.body rest can.0 32 (omega arith) can.1)
 
-    ruled : (made : Outcome ℕ Formula) (decided : Fit) → Told P f made decided → Ruled made (misfit decided (words_in N f ++ rest))
-    ruled made (fit.Value b) t = makes (truth b) t refl
-    ruled made (fit.Junction every) t = makes (simplified t.side t.parts) t.makes refl
-    ruled made fit.Quantifier t = rw (guard_closed_lem t) (pick (closed_but t.name t.guard) t.makes)
+    ruled : (made : Outcome ℕ Formula) (decided : Option Fit) → Told P f made decided → Ruled made (misfit decided (words_in N f ++ rest))
+    ruled made (Some (fit.Value b)) t = makes (truth b) t refl
+    ruled made (Some (fit.Junction every)) t = makes (simplified t.side t.parts) t.makes refl
+    ruled made (Some fit.Quantifier) t = rw (guard_closed_lem t) (pick (closed_but t.name t.guard) t.makes)
       where
         pick : (b : Bool) → made ≡ cond b (done (instantiated P t.side t.name t.guard t.body)) (refused 14) → Ruled made (cond b 0 14)
         pick true e = makes (instantiated P t.side t.name t.guard t.body) e refl
         pick false e = fails 13 e refl
-    ruled made fit.Misfit t = fails 12 t refl
+    ruled made None t = fails 12 t refl
 
     flags_admitted : Admitted N text table rows inside valid index (admitted_flags table rows 32 (words_in N f ++ rest)) f
     unfolding depth
@@ -92,7 +93,7 @@ module _ (N : Naming) (text : Bytes) (table : Table) (rows : List ℕ) (inside :
     ends : end_within work (length before) (length work) ≡ length before + length (words_in N f)
     ends = rw (take-length work, stands, skip_first N f after)
 
-    abbrev decided : Fit
+    abbrev decided : Option Fit
     decided = rule_fit table rows rule (drop (length before) work)
 
     abbrev flags : List Bool

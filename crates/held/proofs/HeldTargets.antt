@@ -7,6 +7,7 @@ use mathlib.Core.Path.{◌≡◌, refl, ap, ◌∙◌}
 use mathlib.Core.List.{List, [], ◌∷◌, ◌++◌}
 use mathlib.Core.Bool.{Bool, true, false}
 use lib.Dec.{eqb}
+use Rattle.std.specs.Prelude.{Option, Some, None}
 use lib.ListN.{length, drop, length-append}
 use lib.Seq.{drop-append_seam}
 use borrow.Author.Tests.{eqb-true, eqb-false, eq-eqb, ne_eqb}
@@ -21,8 +22,6 @@ use Rattle.demands.proofs.Theory.{names-append, length-names}
 use Rattle.words.specs.memory.Kinds.{skip}
 use Rattle.words.specs.memory.Words.{words}
 use Rattle.words.specs.memory.Paths.{place_of}
-use Rattle.words.specs.declared.walk.Place.{Place}
-use Rattle.words.specs.declared.walk.Place.TheVariants.{At, Nowhere}
 use Rattle.words.proofs.memory.Naming.{Naming, words_in}
 use Rattle.words.proofs.memory.Inner.{Inner, Reached, walk_reached}
 use Rattle.names.specs.memory.Names.{index_in}
@@ -124,7 +123,7 @@ module _ (N : Naming) (s : State) (p : Position) where
     abbrev start : ℕ
     start = length (live_words N l.before)
 
-    aim_place : (place : Place) → place_of (live_words N (live_theory s)) p.path start ≡ place
+    aim_place : (place : Option ℕ) → place_of (live_words N (live_theory s)) p.path start ≡ place
         → target_in (held_of N s) p ≡ mapped (λ j. (length l.before, j)) (reached place)
     unfolding target_in
     aim_place place e =
@@ -137,10 +136,10 @@ module _ (N : Naming) (s : State) (p : Position) where
         w : List ℕ
         w = live_words N (live_theory s)
 
-        pick : (place : Place) → place_of w p.path start ≡ place
+        pick : (place : Option ℕ) → place_of w p.path start ≡ place
             → Reached N l.formula (λ k. at p.path k l.formula) start place → Aim
-        pick (At j) e (r, h) = somewhere l r (aim_place (At j) e ∙ ap (λ (i : ℕ). done (length l.before, i)) h)
-        pick Nowhere e refuses = nowhere l (aim_place Nowhere e) refuses
+        pick (Some j) e (r, h) = somewhere l r (aim_place (Some j) e ∙ ap (λ (i : ℕ). done (length l.before, i)) h)
+        pick None e refuses = nowhere l (aim_place None e) refuses
 
   pub aimed : Aim
   aimed = pick (searched p.name (live_theory s))
@@ -163,9 +162,9 @@ module _ (N : Naming) (n : ℕ) where
   unfolding whole_in place_of
   whole_name s (missing i r) = never 11 (rw (aim_missing N s (position n []) i)) (λ k. r (unless_ended s k))
   whole_name (live t top) (located l) =
-      entire l (rw (aim_place N (live t top) (position n []) l (At (length (live_words N l.before))) refl)) (λ k. l.replaced k)
+      entire l (rw (aim_place N (live t top) (position n []) l (Some (length (live_words N l.before))) refl)) (λ k. l.replaced k)
   whole_name (ended m top) (located l) =
-      never 13 (rw (aim_place N (ended m top) (position n []) l (At (length (live_words N l.before))) refl)) (λ k. l.replaced (λ f. refused 13))
+      never 13 (rw (aim_place N (ended m top) (position n []) l (Some (length (live_words N l.before))) refl)) (λ k. l.replaced (λ f. refused 13))
 
   whole_path : (s : State) (i : ℕ) (is : List ℕ) → Aim N s (position n (i ∷ is)) → Whole N s (position n (i ∷ is))
   unfolding whole_in

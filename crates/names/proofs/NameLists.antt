@@ -5,32 +5,22 @@ use native.Mathlib.Numerals.{add-one}
 use native.Mathlib.Omega.{arith}
 use mathlib.Core.Path.{◌≡◌, refl, ap, ◌∙◌}
 use mathlib.Core.List.{List, [], ◌∷◌, ◌++◌}
-use lib.ListN.{length, get_or, take, drop, set, length-take, length-drop, drop_of_length-le}
-use lib.Seq.{drop-cons, get_or-take, get_or-drop, set_at}
-use borrow.Author.Tests.{eq-eqb, ne_eqb}
+use lib.ListN.{length, take, drop, set, length-take, length-drop}
+use lib.Seq.{drop-cons, set_at}
+use borrow.Author.Tests.{eq-eqb, ne_eqb, ltb-true, ltb-false}
+use mathlib.Core.Bool.{Bool, true, false, cond, not}
+use lib.Dec.{eqb, ltb}
+use Rattle.std.specs.Prelude.{Option, Some, None}
+use Rattle.std.specs.List.{position_or_len}
+use Rattle.std.proofs.lemmas.List.Sums.{prefix_len-le-length}
+use Rattle.std.proofs.lemmas.List.Recursion.{is_position_or_len}
 use Rattle.logic.specs.Meaning.{count_from}
 use Rattle.logic.proofs.Meaning.{length-count_from}
-use Rattle.names.specs.memory.Names.{index_in}
+use Rattle.names.specs.memory.Names.{index_in, ToldIndex}
 
 -- a list that stands in memory from a place on
-abbrev pub region : List ℕ → ℕ → ℕ → List ℕ
-region work start count = take count (drop start work)
-
-module _ (work : List ℕ) (start count : ℕ) (fits : start + count ≤ length work) where
-  pub region_length : length (region work start count) ≡ count
-  region_length = simp (length-take, length-drop) (omega arith)
-
-  pub region_more : (i : ℕ) → i < count → drop i (region work start count) ≡ get_or work (start + i) 0 ∷ drop (i + 1) (region work start count)
-  region_more i h =
-      let long = region_length in
-      let inside : i < length (region work start count) = omega arith in
-      drop-cons (region work start count) i 0 inside ∙ rw (add-one, get_or-take count (drop start work) i 0 h, get_or-drop start work i 0)
-
-  pub region_end : (i : ℕ) → count ≤ i → drop i (region work start count) ≡ []
-  region_end i h =
-      let long = region_length in
-      let past : length (region work start count) ≤ i = omega arith in
-      drop_of_length-le (region work start count) past
+pub region_length : (work : List ℕ) (start count : ℕ) → start + count ≤ length work → length (take count (drop start work)) ≡ count
+region_length work start count fits = simp (length-take, length-drop) (omega arith)
 
 module _ (name n : ℕ) (ns : List ℕ) where
   pub index-here : n ≡ name → index_in name (n ∷ ns) ≡ 0
@@ -44,6 +34,26 @@ module _ (name n : ℕ) (ns : List ℕ) where
 pub index-none : (name : ℕ) → index_in name [] ≡ 0
 unfolding index_in
 index-none name = refl
+
+-- that index is where the first number equal to the name stands
+index_position : (name : ℕ) (names : List ℕ) → index_in name names ≡ position_or_len (λ n. eqb n name) names
+unfolding index_in
+index_position name names = is_position_or_len (index_in name) (λ n. eqb n name) refl (λ x xs. let more : suc (index_in name xs) ≡ 1 + index_in name xs = omega arith in ap (cond (eqb x name) 0) more) names
+
+pub index_told : (name : ℕ) (names : List ℕ) (r : Option ℕ)
+    → r ≡ cond (ltb (position_or_len (λ n. eqb n name) names) (length names)) (Some (position_or_len (λ n. eqb n name) names)) None
+    → ToldIndex name names r
+index_told name names r e = rw e (pick (ltb place (length names)) refl)
+  where
+    place : ℕ
+    place = position_or_len (λ n. eqb n name) names
+
+    pick : (b : Bool) → ltb place (length names) ≡ b → ToldIndex name names (cond b (Some place) None)
+    pick true h = (ltb-true place (length names) h, index_position name names)
+    pick false h =
+        let past = ltb-false place (length names) h in
+        let least = prefix_len-le-length (λ n. not (eqb n name)) names in
+        index_position name names ∙ omega arith
 
 -- The names 1, 2, 3 and so on, at the front of a list.
 

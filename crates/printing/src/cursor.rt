@@ -1,8 +1,9 @@
 // Printing with a cursor: each byte is counted, compared with a claim, and stored only if asked.
-ghost use Rattle.std.specs.Prelude.{◌≡◌, [], ◌∷◌, cond, set, drop};
-ghost use Rattle.printing.specs.memory.Cursor.{counted, first_is, cursor_after, first_cursor, Prints};
+ghost use Rattle.std.specs.Prelude.{◌≡◌, [], ◌∷◌, cond, set};
+ghost use Rattle.grammar.specs.Numbers.{decimal};
+ghost use Rattle.printing.specs.memory.Cursor.{counted, agrees_after, cursor_after, first_cursor, Writes};
 
-use text::cell::set_byte;
+use text::cell::set;
 
 // Larger than every text: from here on bytes and lines are not counted.
 const COUNTLESS: usize = 1000000000;
@@ -15,95 +16,96 @@ pub struct Cursor {
     pub line: u32,
 }
 
-// Before the first byte.
-pub fn start() -> Cursor
-    ensures { result ≡ first_cursor }
-{
-    Cursor {
-        length: 0,
-        same: true,
-        line: 1,
-    }
-}
-
 fn more(n: usize) -> usize
     ensures { result ≡ counted n }
 {
-    if n < COUNTLESS { n + 1 } else { COUNTLESS }
+    n.min(COUNTLESS - 1) + 1
 }
 
-// Whether a byte stands at a place.
-fn stands(text: &[u8], at: usize, b: u8) -> bool
-    ensures { result ≡ first_is (drop at text.now) b }
-{
-    if at < text.len() {
-        text[at] == b
-    } else {
-        false
+impl Cursor {
+    // Before the first byte.
+    pub fn start() -> Cursor
+        ensures { result ≡ first_cursor }
+    {
+        Cursor {
+            length: 0,
+            same: true,
+            line: 1,
+        }
+    }
+
+    // Whether all is the same, with one byte more.
+    #[tactic(auto, using(crate::proofs::memory::Cursor::first_here), unfolding(crate::specs::memory::Cursor::agrees_after))]
+    fn agrees(self, claim: &[u8], b: u8) -> bool
+        ensures { result ≡ agrees_after claim.now self b }
+    {
+        self.same && claim.get(self.length).copied() == Some(b)
+    }
+
+    // Behind one byte more.
+    #[tactic(auto, unfolding(crate::specs::memory::Cursor::cursor_after, crate::specs::memory::Cursor::line_after))]
+    fn after(self, claim: &[u8], b: u8) -> Cursor
+        ensures { result ≡ cursor_after claim.now self b }
+    {
+        let same = self.agrees(claim, b);
+        Cursor {
+            length: more(self.length),
+            same,
+            line: if same && b == b'\n' {
+                more(self.line as usize) as u32
+            } else {
+                self.line
+            },
+        }
     }
 }
 
-// A byte is stored if asked and where there is room.
+// A byte is stored if asked and where there is room. Why `store` is a flag beside the output is said at `Printer`.
 fn put_if(store: bool, out: &mut [u8], at: usize, b: u8)
     ensures { out.new ≡ cond store (set out.old at b) out.old }
 {
     if store {
-        set_byte(out, at, b);
+        set(out, at, b);
     }
 }
 
-// The cursor behind one byte more.
-fn moved(cursor: Cursor, b: u8, claim: &[u8]) -> Cursor
-    ensures { result ≡ cursor_after claim.now cursor b }
-{
-    let at = cursor.length;
-    let line = cursor.line;
-    let length = more(at);
-    if !cursor.same {
-        return Cursor {
-            length,
-            same: false,
-            line,
-        };
-    }
-    if !stands(claim, at, b) {
-        return Cursor {
-            length,
-            same: false,
-            line,
-        };
-    }
-    if b != b'\n' {
-        return Cursor {
-            length,
-            same: true,
-            line,
-        };
-    }
-    Cursor {
-        length,
-        same: true,
-        line: more(line as usize) as u32,
-    }
+// Where a text is printed: what it is compared with, whether it is stored, how far it is, and where it is stored. The output is here even where
+// nothing is stored (so there is a flag, and no Option of it), since contracts say what it holds then, too.
+#[derive(Drop)]
+pub struct Printer<'a> {
+    pub claim: &'a [u8],
+    pub store: bool,
+    pub cursor: Cursor,
+    pub out: &'a mut [u8],
 }
 
-// One byte more.
-pub fn emit(cursor: Cursor, b: u8, claim: &[u8], store: bool, out: &mut [u8]) -> Cursor
-    ensures { Prints claim.now store (cursor, out.old) (b ∷ []) (result, out.new) }
-{
-    put_if(store, out, cursor.length, b);
-    moved(cursor, b, claim)
-}
-
-// All the bytes of a slice.
-pub fn emit_all(bytes: &[u8], cursor: Cursor, claim: &[u8], store: bool, out: &mut [u8]) -> Cursor
-    ensures { Prints claim.now store (cursor, out.old) bytes.now (result, out.new) }
-{
-    let mut last = cursor;
-    let mut i: usize = 0;
-    while i < bytes.len() {
-        last = emit(last, bytes[i], claim, store, out);
-        i += 1;
+impl Printer<'_> {
+    // One byte more.
+    pub fn byte(&mut self, b: u8)
+        ensures { Writes self.old (b ∷ []) self.new }
+    {
+        put_if(self.store, self.out, self.cursor.length, b);
+        self.cursor = self.cursor.after(self.claim, b);
     }
-    last
+
+    // All the bytes of a slice.
+    pub fn bytes(&mut self, bytes: &[u8])
+        ensures { Writes self.old bytes.now self.new }
+    {
+        for b in bytes {
+            self.byte(*b);
+        }
+    }
+
+    // The digits of a number. By hand: of `write!` the bytes are promised for a String alone, and here memory is lent, with no heap.
+    pub fn number(&mut self, n: u32)
+        ensures { Writes self.old (decimal n) self.new }
+    {
+        if n < 10 {
+            self.byte(b'0' + n as u8);
+        } else {
+            self.number(n / 10);
+            self.byte(b'0' + (n % 10) as u8);
+        }
+    }
 }

@@ -6,69 +6,72 @@ use mathlib.Core.Path.{◌≡◌, refl, sym, ◌∙◌}
 use mathlib.Core.List.{[], ◌∷◌}
 use mathlib.Core.Bool.{Bool, true, false, and-true}
 use lib.ListN.{length, take, drop}
+use Rattle.std.specs.Prelude.{Option, Some, None}
 use Rattle.grammar.specs.Bytes.{Bytes, bytes, next, begins, span, is_capital, is_small_or_digit, is_letter_or_digit}
 use Rattle.grammar.specs.Outcome.{mapped}
 use Rattle.grammar.specs.Reading.{word, read_number}
 use Rattle.grammar.specs.Problem.{Predicate, is_name, read_name, read_domain, read_predicate}
 use Rattle.grammar.proofs.Laws.{or_left}
 use Rattle.grammar.proofs.Reading.{span-split, span-take}
-use Rattle.text.specs.memory.Found.{Found, Refused, WordFound}
-use Rattle.text.specs.memory.Numbers.{NumberFound, SmallFound, LargeFound, ToldNumber}
-use Rattle.text.specs.declared.number.Number.{Number}
-use Rattle.text.specs.declared.number.Number.TheVariants.{Value, Beyond, Malformed}
+use Rattle.text.specs.memory.Found.{Found, Taken, Refused, WordFound}
+use Rattle.text.specs.memory.Told.{Ends}
+use Rattle.text.specs.memory.Numbers.{NumberFound, ToldNumber}
+use Rattle.text.specs.declared.read.Read.{Read}
 use Rattle.text.proofs.Found.{found-give, found-taken, taken-found, found_then, refused-first, refused_then, found_word, refused-word, found-token, refused-token}
 use Rattle.text.proofs.Found.{made_mapped, found_made, refused_made}
 use Rattle.text.proofs.FoundBytes.{byte_found, byte_missing}
-use Rattle.problem.specs.memory.Declarations.{read_last_number, ToldLast, ToldDeclaration}
-use Rattle.problem.specs.declared.declaration.Declaration.TheVariants as declaration
+use Rattle.problem.specs.memory.Declarations.{NumberTold, read_last_number, ToldLast, PredicateFound, ToldDeclaration}
 
--- A number that ends its line.
+-- A number, and one that ends its line.
 
 module _ (text : Bytes) (at : ℕ) where
-  module _ {n end : ℕ} (found : NumberFound text at n end) where
-    number-found : Found (read_number 3) text at n end
-    number-found = record { is = found.is 3; after = omega (arith, found.after); within = found.within }
+  number_found_lem : {n end : ℕ} → NumberFound text at n end → Taken (read_number 3) text at n end
+  number_found_lem f = record { is = f.is 3; after = f.after; within = f.within }
 
-    last_found : next (drop end text) ≡ 10 → Found read_last_number text at n (end + 1)
-    unfolding read_last_number
-    last_found e =
-        let lf = byte_found text end 10 (omega arith) e in
-        found_then _ number-found (found_then _ (found_word text end 3 (bytes "\n") lf) (found-give n lf.within))
+  pub number_told : (read : Read (Option ℕ)) → ToldNumber text at (Some read) → NumberTold (read_number 3) text at read.value read.next
+  number_told read f = pick read.value f
+    where
+      pick : (value : Option ℕ) → ToldNumber text at (Some (record { value = value; next = read.next })) → NumberTold (read_number 3) text at value read.next
+      pick (Some n) f = record { number = n; is = refl; found = number_found_lem f.found }
+      pick None f = record { number = f.number; is = f.large; found = number_found_lem f.found }
 
-    last_unended : (next (drop end text) ≡ 10 → ⊥) → Refused 3 read_last_number text at
-    unfolding read_last_number
-    last_unended h = refused_then _ number-found (refused-first _ (refused-word text end 3 (bytes "\n") (byte_missing text end 10 h)))
-
-  pub last_misspelled : ToldNumber text at Malformed → ToldLast read_last_number text at Malformed
+  pub last_misspelled : ToldNumber text at None → ToldLast read_last_number text at None
   unfolding read_last_number
   last_misspelled told = record { is = rw (told 3) }
 
-  module _ (end : ℕ) where
-    module _ (n : ℕ) (found : SmallFound text at n end) where
-      pub last-small : next (drop end text) ≡ 10 → ToldLast read_last_number text at (Value (end + 1) n)
-      last-small e = found-taken (last_found found.found e) (omega (arith, found.found.after))
+  module _ (read : Read (Option ℕ)) (f : ToldNumber text at (Some read)) where
+    pub last_open : Refused 3 (word 3 (bytes "\n")) text read.next → ToldLast read_last_number text at None
+    unfolding read_last_number
+    last_open g = refused_then _ (taken-found (number_told read f).found) (refused-first _ g)
 
-      pub last-small_unended : (next (drop end text) ≡ 10 → ⊥) → ToldLast read_last_number text at Malformed
-      last-small_unended h = last_unended found.found h
-
-    module _ (found : LargeFound text at end) where
-      pub last-large : next (drop end text) ≡ 10 → ToldLast read_last_number text at (Beyond (end + 1))
-      last-large e = record { number = found.number; found = last_found found.found e; large = found.large }
-
-      pub last-large_unended : (next (drop end text) ≡ 10 → ⊥) → ToldLast read_last_number text at Malformed
-      last-large_unended h = last_unended found.found h
+    pub last_ended : (next : ℕ) → Ends (word 3 (bytes "\n")) text read.next next → NumberTold read_last_number text at read.value next
+    unfolding read_last_number
+    last_ended next g =
+        let told = number_told read f in
+        record {
+          number = told.number;
+          is = told.is;
+          found = found-taken (found_then _ (taken-found told.found) (found_then _ g.found (found-give told.number g.found.within))) (omega (arith, told.found.after, g.found.after));
+        }
 
   -- behind a word
-  pub domain_misspelled : begins (bytes "domain=") (drop at text) ≡ false → ToldLast read_domain text at Malformed
+  pub domain_misspelled : begins (bytes "domain=") (drop at text) ≡ false → ToldLast read_domain text at None
   unfolding read_domain
   domain_misspelled e = refused-first _ (refused-word text at 3 (bytes "domain=") e)
 
-  pub domain_behind : WordFound (bytes "domain=") text at (at + 7) → (r : Number) → ToldLast read_last_number text (at + 7) r → ToldLast read_domain text at r
+  pub domain_behind : WordFound (bytes "domain=") text at (at + 7) → (r : Option (Read (Option ℕ))) → ToldLast read_last_number text (at + 7) r
+      → ToldLast read_domain text at r
   unfolding read_domain read_last_number
-  domain_behind w (Value next n) f = found-taken (found_then _ (found_word text at 3 (bytes "domain=") w) (taken-found f)) (omega (arith, f.after))
-  domain_behind w (Beyond next) f =
-      record { number = f.number; found = found_then _ (found_word text at 3 (bytes "domain=") w) f.found; large = f.large }
-  domain_behind w Malformed f = refused_then _ (found_word text at 3 (bytes "domain=") w) f
+  domain_behind w (Some read) f =
+      record {
+        number = f.number;
+        is = f.is;
+        found = found-taken (found_then _ (found_word text at 3 (bytes "domain=") w) (taken-found f.found)) (omega (arith, f.found.after));
+      }
+  domain_behind w None f = refused_then _ (found_word text at 3 (bytes "domain=") w) f
+
+-- what the code's answers follow from
+pub ruleset ends = (last_misspelled, last_open, last_ended)
 
 -- A predicate: a name, `/` and a number.
 
@@ -83,7 +86,7 @@ is_name-span (b ∷ s) = pick (is_letter_or_digit b) refl
     pick false e = sym (or_left (is_capital b) (is_small_or_digit b) e)
 
 module _ (text : Bytes) (at : ℕ) where
-  pub predicate_unnamed : is_capital (next (drop at text)) ≡ false → ToldDeclaration text at declaration.Malformed
+  pub predicate_unnamed : is_capital (next (drop at text)) ≡ false → ToldDeclaration text at None
   unfolding read_predicate read_name
   predicate_unnamed e = refused-first _ (refused-token text at 3 is_letter_or_digit is_name (is_name-span (drop at text) ∙ e))
 
@@ -96,7 +99,7 @@ module _ (text : Bytes) (at : ℕ) where
         rw (e, span-take is_letter_or_digit (drop at text), ends)
         (found-token text at 3 is_letter_or_digit is_name (omega arith) (is_name-span (drop at text) ∙ named))
 
-    pub predicate_unparted : (next (drop end text) ≡ 47 → ⊥) → ToldDeclaration text at declaration.Malformed
+    pub predicate_unparted : (next (drop end text) ≡ 47 → ⊥) → ToldDeclaration text at None
     unfolding read_predicate
     predicate_unparted h = refused_then _ name-found (refused-first _ (refused-word text end 3 (bytes "/") (byte_missing text end 47 h)))
 
@@ -110,17 +113,16 @@ module _ (text : Bytes) (at : ℕ) where
           rw (name-found.is, (found_word text end 3 (bytes "/") (byte_found text end 47 (omega arith) parted)).is)
           (made_mapped (read_number 3) (λ n. word 3 (bytes "\n")) predicate_of (drop (end + 1) text))
 
-      found : (arity next : ℕ) → Found read_last_number text (end + 1) arity next → Found read_predicate text at (predicate_of arity) next
-      found arity next f = found_made text at predicate_of behind (omega arith) f
-
-      pub predicate-small : (next arity : ℕ) → ToldLast read_last_number text (end + 1) (Value next arity)
-          → ToldDeclaration text at (declaration.Predicate (end - at) arity next)
+      pub predicate_told : (read : Read (Option ℕ)) → NumberTold read_last_number text (end + 1) read.value read.next
+          → PredicateFound text at (record { size = end - at; arity = read.value }) read.next
       unfolding predicate_of
-      predicate-small next arity f = record { found = found arity next (taken-found f); short = omega (arith, f.after) }
+      predicate_told read f =
+          record {
+            arity = f.number;
+            is = f.is;
+            found = found_made text at predicate_of behind (omega arith) (taken-found f.found);
+            short = omega (arith, f.found.after);
+          }
 
-      pub predicate-large : (next : ℕ) → ToldLast read_last_number text (end + 1) (Beyond next) → ToldDeclaration text at declaration.Beyond
-      unfolding predicate_of
-      predicate-large next f = record { predicate = predicate_of f.number; next = next; found = found f.number next f.found; large = f.large }
-
-      pub predicate_misspelled : ToldLast read_last_number text (end + 1) Malformed → ToldDeclaration text at declaration.Malformed
+      pub predicate_misspelled : ToldLast read_last_number text (end + 1) None → ToldDeclaration text at None
       predicate_misspelled f = refused_made text at predicate_of behind f

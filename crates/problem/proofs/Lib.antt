@@ -1,9 +1,11 @@
+pub mod EndPlaces
 pub mod DeclarationPlaces
 pub mod Listing
 pub mod RelationPlaces
 pub mod RowPlaces
 pub mod RowsKept
-pub mod ProblemPlaces
+pub mod Refusing
 pub mod TableGrowth
+pub mod ProblemPlaces
 pub mod RowsLine
 pub mod ProblemLoop

@@ -4,6 +4,7 @@ use Prim.Native.Nat.{ℕ, suc, zero, ◌+◌, ◌*◌, ◌≤◌, ◌<◌}
 use native.Mathlib.Omega.{arith}
 use mathlib.Core.Path.{◌≡◌, refl, sym, ap, ◌∙◌}
 use mathlib.Core.List.{List, [], ◌∷◌, ◌++◌, append_assoc, append-nil, map, map-append}
+use Rattle.std.specs.Prelude.{Option, Some, None}
 use mathlib.Core.Bool.{Bool, true, false, ◌&&◌, and-true, and-false, and_assoc, false≢true}
 use lib.Dec.{leb, ltb}
 use lib.ListN.{length, set, length-append, length-map}
@@ -14,11 +15,11 @@ use Rattle.grammar.specs.Problem.{Row, is_element, row_fits, rows_fit, before, a
 use Rattle.grammar.proofs.Laws.{and_left, and_right, sets_append}
 use Rattle.table.specs.memory.Table.{packed, placed, ranked, rank_after}
 use Rattle.table.proofs.Packing.{Digits, before-ranked, ranked-more, packed_more}
+use Rattle.problem.specs.memory.Declarations.{IsTold}
 use Rattle.problem.specs.memory.Rows.{RowFound, ToldRow, RowBounded, RowMore, rows_allowed, last_rank, RowsFound, RowsMore}
 use Rattle.problem.specs.declared.rows.RowKept.{RowKept}
-use Rattle.problem.specs.declared.rows.RowKept.TheVariants as row
 use Rattle.problem.specs.declared.rows.RowsKept.{RowsKept}
-use Rattle.problem.specs.declared.rows.RowsKept.TheVariants as rows
+use Rattle.problem.specs.declared.rows.Awaited.{Awaited}
 
 -- One row.
 
@@ -49,43 +50,50 @@ module _ (n : ℕ) where
   row_fits-every [] = refl
   row_fits-every (v ∷ vs) = ap (λ b. is_element n v && b) (row_fits-every vs)
 
-  module _ (v : ℕ) where
-    outside : (before : RowKept) → is_element n v ≡ false → RowMore n v before row.Unfit
-    outside before h =
-        record { told = λ vs told more arity few. rw (append_assoc vs (v ∷ []) more) (row_fits_outside vs v more arity h) }
+  module _ (before : Option RowKept) where
+    -- an element outside the domain, and one behind what is no row
+    outside : (element : Option ℕ) → ((v : ℕ) → IsTold element v → is_element n v ≡ false) → RowMore n element before None
+    outside element h =
+        record { told = λ v e vs told more arity few. rw (append_assoc vs (v ∷ []) more) (row_fits_outside vs v more arity (h v e)) }
 
-    pub row_below : (before : RowKept) → v < 1 → RowMore n v before row.Unfit
-    row_below before h = outside before (is_element_below v h)
+    pub row_large : n ≤ 64 → RowMore n None before None
+    row_large small = outside None (λ v e. is_element_above v (omega arith))
 
-    pub row_above : (before : RowKept) → n < v → RowMore n v before row.Unfit
-    row_above before h = outside before (is_element_above v h)
+    module _ (v : ℕ) where
+      pub row_below : v < 1 → RowMore n (Some v) before None
+      row_below h = outside (Some v) (λ w e. rw e (is_element_below v h))
 
-    pub row_unfit : RowMore n v row.Unfit row.Unfit
-    row_unfit = record { told = λ vs told more arity few. rw (append_assoc vs (v ∷ []) more) (told ((v ∷ []) ++ more) arity few) }
+      pub row_above : n < v → RowMore n (Some v) before None
+      row_above h = outside (Some v) (λ w e. rw e (is_element_above v h))
 
-    module _ (size key rank : ℕ) where
-      pub row_long : 2 < size → RowMore n v (row.Fitting size key rank) row.Unfit
-      row_long h = record { told = λ vs told more arity few. long vs told more arity few }
-        where
-          long : (vs : Row) → RowFound n vs size key rank → (more : Row) (arity : ℕ) → arity ≤ 3 → row_fits n arity (vs ++ (v ∷ []) ++ more) ≡ false
-          long vs told more arity few =
-              let e = told.sized in
-              row_fits-length (vs ++ (v ∷ []) ++ more) arity (λ f. let g = simp length-append at f in absurd (omega arith))
+  pub row_unfit : (element : Option ℕ) → RowMore n element None None
+  row_unfit element =
+      record { told = λ v e vs told more arity few. rw (append_assoc vs (v ∷ []) more) (told ((v ∷ []) ++ more) arity few) }
 
-      pub row_more : size ≤ 2 → 1 ≤ v → v ≤ n → (added : ℕ) → added ≡ placed size v
-          → RowMore n v (row.Fitting size key rank) (row.Fitting (size + 1) (key + added) (rank * 256 + v))
-      row_more few least greatest added e = record { told = more }
-        where
-          more : (vs : Row) → RowFound n vs size key rank → RowFound n (vs ++ (v ∷ [])) (size + 1) (key + added) (rank * 256 + v)
-          more vs told =
-              let s = told.sized in
-              record {
-                sized = simp length-append (omega arith);
-                few = simp length-append (omega arith);
-                within = rw (every_more vs v, told.within, le-leb 1 v least, le-leb v n greatest);
-                numbered = rw (packed_more vs v, e, told.numbered, s);
-                order = rw (ranked-more vs 0 v, told.order);
-              }
+  module _ (v : ℕ) (kept : RowKept) where
+    pub row_long : 2 < kept.size → RowMore n (Some v) (Some kept) None
+    row_long h = record { told = λ w e vs told more arity few. long w vs told more arity few }
+      where
+        long : (w : ℕ) (vs : Row) → RowFound n vs kept → (more : Row) (arity : ℕ) → arity ≤ 3 → row_fits n arity (vs ++ (w ∷ []) ++ more) ≡ false
+        long w vs told more arity few =
+            let e = told.sized in
+            row_fits-length (vs ++ (w ∷ []) ++ more) arity (λ f. let g = simp length-append at f in absurd (omega arith))
+
+    pub row_more : kept.size ≤ 2 → 1 ≤ v → v ≤ n → (added : ℕ) → added ≡ placed kept.size v
+        → RowMore n (Some v) (Some kept) (Some (record { size = kept.size + 1; key = kept.key + added; rank = kept.rank * 256 + v }))
+    row_more few least greatest added e = record { told = λ w same. rw same more }
+      where
+        more : (vs : Row) → RowFound n vs kept
+            → RowFound n (vs ++ (v ∷ [])) (record { size = kept.size + 1; key = kept.key + added; rank = kept.rank * 256 + v })
+        more vs told =
+            let s = told.sized in
+            record {
+              sized = simp length-append (omega arith);
+              few = simp length-append (omega arith);
+              within = rw (every_more vs v, told.within, le-leb 1 v least, le-leb v n greatest);
+              numbered = rw (packed_more vs v, e, told.numbered, s);
+              order = rw (ranked-more vs 0 v, told.order);
+            }
 
   -- elements are digits, and so are the numbers of three of them bounded
   pub every-digits : n ≤ 64 → (vs : Row) → every (is_element n) vs ≡ true → Digits vs
@@ -94,9 +102,9 @@ module _ (n : ℕ) where
       let h : v ≤ n = leb-true v n (and_right (leb 1 v) (leb v n) (and_left (is_element n v) (every (is_element n) vs) e)) in
       (omega arith, every-digits small vs (and_right (is_element n v) (every (is_element n) vs) e))
 
-  pub row_bounded : (vs : Row) (kept : RowKept) → n ≤ 64 → ToldRow n vs kept → RowBounded kept
+  pub row_bounded : (vs : Row) (kept : Option RowKept) → n ≤ 64 → ToldRow n vs kept → RowBounded kept
   unfolding packed rank_after
-  row_bounded vs (row.Fitting size key rank) small told = rw (told.numbered, told.order) (bounded vs told.few (every-digits small vs told.within))
+  row_bounded vs (Some kept) small told = rw (told.numbered, told.order) (bounded vs told.few (every-digits small vs told.within))
     where
       bounded : (vs : Row) → length vs ≤ 3 → Digits vs → (packed vs < 16777216) × (ranked vs < 16777216)
       bounded [] few d = omega arith
@@ -104,7 +112,7 @@ module _ (n : ℕ) where
       bounded (a ∷ b ∷ []) few d = omega (arith, d.0, d.1.0)
       bounded (a ∷ b ∷ c ∷ []) few d = omega (arith, d.0, d.1.0, d.1.1.0)
       bounded (a ∷ b ∷ c ∷ e ∷ vs) few d = absurd (omega arith)
-  row_bounded vs row.Unfit small told = tt
+  row_bounded vs None small told = tt
 
 -- Many rows.
 
@@ -167,90 +175,91 @@ last_rank-more [] t = refl
 last_rank-more (s ∷ []) t = refl
 last_rank-more (s ∷ u ∷ ts) t = last_rank-more (u ∷ ts) t
 
-module _ (total arity : ℕ) where
-  module _ (n : ℕ) (ts : List Row) (t : Row) (more : List Row) where
+module _ (a : Awaited) where
+  module _ (ts : List Row) (t : Row) (more : List Row) where
     -- the rows with those that are still to come
     abbrev all : List Row
     all = ts ++ (t ∷ []) ++ more
 
-    allowed_unfit : row_fits n arity t ≡ false → rows_allowed n total arity all ≡ false
+    allowed_unfit : row_fits a.domain a.arity t ≡ false → rows_allowed a.domain a.total a.arity all ≡ false
     allowed_unfit e =
-        rw (append_assoc ts (t ∷ []) more, rows_fit-append n arity ts (t ∷ more), e, and-false (rows_fit n arity ts))
+        rw (append_assoc ts (t ∷ []) more, rows_fit-append a.domain a.arity ts (t ∷ more), e, and-false (rows_fit a.domain a.arity ts))
 
-    allowed_unordered : ascending (ts ++ (t ∷ [])) ≡ false → rows_allowed n total arity all ≡ false
-    allowed_unordered e = rw (ascending_broken (ts ++ (t ∷ [])) more e) (and-false (rows_fit n arity all))
+    allowed_unordered : ascending (ts ++ (t ∷ [])) ≡ false → rows_allowed a.domain a.total a.arity all ≡ false
+    allowed_unordered e = rw (ascending_broken (ts ++ (t ∷ [])) more e) (and-false (rows_fit a.domain a.arity all))
 
-    allowed_full : 1024 < total + length all → rows_allowed n total arity all ≡ false
+    allowed_full : 1024 < a.total + length all → rows_allowed a.domain a.total a.arity all ≡ false
     unfolding tuple_count
-    allowed_full h = rw (lt-leb (total + length all) 1024 h, and-false (ascending all)) (and-false (rows_fit n arity all))
+    allowed_full h = rw (lt-leb (a.total + length all) 1024 h, and-false (ascending all)) (and-false (rows_fit a.domain a.arity all))
 
-  module _ (to : ℕ) (lent left : List ℕ) where
-    pub rows_unfit : (one : RowKept) → RowsMore total arity to one rows.Unfit rows.Unfit lent left
+  module _ (lent left : List ℕ) where
+    pub rows_unfit : (one : Option RowKept) → RowsMore a one None None lent left
     rows_unfit one =
-        record { told = λ n old ts t small row told some more. rw (append_assoc ts (t ∷ []) more) (told some ((t ∷ []) ++ more)) }
+        record { told = λ old ts t row told some more. rw (append_assoc ts (t ∷ []) more) (told some ((t ∷ []) ++ more)) }
 
-    module _ (few : arity ≤ 3) (count last : ℕ) where
-      pub rows_unfit_row : RowsMore total arity to row.Unfit (rows.Fitting count last) rows.Unfit lent left
+    module _ (kept : RowsKept) where
+      pub rows_unfit_row : RowsMore a None (Some kept) None lent left
       rows_unfit_row =
-          record { told = λ n old ts t small row told some more. allowed_unfit n ts t more (rw append-nil at (row [] arity few)) }
+          record { told = λ old ts t row told some more. allowed_unfit ts t more (rw append-nil at (row [] a.arity a.short)) }
 
-      module _ (size key rank : ℕ) where
-        abbrev More : RowsKept → Type 0
-        More after = RowsMore total arity to (row.Fitting size key rank) (rows.Fitting count last) after lent left
+      module _ (one : RowKept) where
+        abbrev More : Option RowsKept → Type 0
+        More after = RowsMore a (Some one) (Some kept) after lent left
 
-        pub rows-size : (size ≡ arity → ⊥) → More rows.Unfit
+        pub rows-size : (one.size ≡ a.arity → ⊥) → More None
         rows-size h =
-            record { told = λ n old ts t small row told some more. allowed_unfit n ts t more (row_fits-length n t arity (λ e. h (row.sized ∙ e))) }
+            record { told = λ old ts t row told some more. allowed_unfit ts t more (row_fits-length a.domain t a.arity (λ e. h (row.sized ∙ e))) }
 
-        module _ (sized : size ≡ arity) where
-          fits : (n : ℕ) (t : Row) → RowFound n t size key rank → row_fits n arity t ≡ true
-          fits n t row = rw (← sized, row.sized) (row_fits-every n t ∙ row.within)
+        module _ (sized : one.size ≡ a.arity) where
+          fits : (t : Row) → RowFound a.domain t one → row_fits a.domain a.arity t ≡ true
+          fits t row = rw (← sized, row.sized) (row_fits-every a.domain t ∙ row.within)
 
-          pub rows-order : rank ≤ last → More rows.Unfit
+          pub rows-order : one.rank ≤ kept.last → More None
           rows-order h = record { told = unordered }
             where
-              unordered : (n : ℕ) (old : List ℕ) (ts : List Row) (t : Row) → n ≤ 64 → RowFound n t size key rank
-                  → RowsFound n total arity to old lent ts count last → 1 ≤ arity → (more : List Row) → rows_allowed n total arity (ts ++ (t ∷ []) ++ more) ≡ false
-              unordered n old ts t small row told some more =
-                  allowed_unordered n ts t more
-                  (rw (ascending-more n arity small some ts t told.fit (fits n t row), told.ordered, ← told.order, ← row.order) (le-ltb last rank h))
+              unordered : (old : List ℕ) (ts : List Row) (t : Row) → RowFound a.domain t one
+                  → RowsFound a old lent ts kept → 1 ≤ a.arity → (more : List Row) → rows_allowed a.domain a.total a.arity (ts ++ (t ∷ []) ++ more) ≡ false
+              unordered old ts t row told some more =
+                  allowed_unordered ts t more
+                  (rw (ascending-more a.domain a.arity a.small some ts t told.fit (fits t row), told.ordered, ← told.order, ← row.order) (le-ltb kept.last one.rank h))
 
-          pub rows-full : 1024 ≤ total + count → More rows.Unfit
+          pub rows-full : 1024 ≤ a.total + kept.count → More None
           rows-full h = record { told = full }
             where
-              full : (n : ℕ) (old : List ℕ) (ts : List Row) (t : Row) → n ≤ 64 → RowFound n t size key rank
-                  → RowsFound n total arity to old lent ts count last → 1 ≤ arity → (more : List Row) → rows_allowed n total arity (ts ++ (t ∷ []) ++ more) ≡ false
-              full n old ts t small row told some more =
-                  allowed_full n ts t more (simp length-append (omega (arith, told.counted)))
+              full : (old : List ℕ) (ts : List Row) (t : Row) → RowFound a.domain t one
+                  → RowsFound a old lent ts kept → 1 ≤ a.arity → (more : List Row) → rows_allowed a.domain a.total a.arity (ts ++ (t ∷ []) ++ more) ≡ false
+              full old ts t row told some more =
+                  allowed_full ts t more (simp length-append (omega (arith, told.counted)))
 
-          pub rows_more : last < rank → total + count < 1024 → left ≡ set lent (to + count) key → More (rows.Fitting (count + 1) rank)
+          pub rows_more : kept.last < one.rank → a.total + kept.count < 1024 → left ≡ set lent (a.to + kept.count) one.key
+              → More (Some (record { count = kept.count + 1; last = one.rank }))
           unfolding rank_after
           rows_more after room stored = record { told = more }
             where
-              some : (n : ℕ) (t : Row) → RowFound n t size key rank → 1 ≤ arity
-              some n [] row = absurd (omega (arith, row.order))
-              some n (v ∷ t) row = omega (arith, row.sized)
+              some : (t : Row) → RowFound a.domain t one → 1 ≤ a.arity
+              some [] row = absurd (omega (arith, row.order))
+              some (v ∷ t) row = omega (arith, row.sized)
 
-              more : (n : ℕ) (old : List ℕ) (ts : List Row) (t : Row) → n ≤ 64 → RowFound n t size key rank
-                  → RowsFound n total arity to old lent ts count last → RowsFound n total arity to old left (ts ++ (t ∷ [])) (count + 1) rank
-              more n old ts t small row told =
+              more : (old : List ℕ) (ts : List Row) (t : Row) → RowFound a.domain t one
+                  → RowsFound a old lent ts kept → RowsFound a old left (ts ++ (t ∷ [])) (record { count = kept.count + 1; last = one.rank })
+              more old ts t row told =
                   record {
                     stored = stored ∙ rw (
                       map-append packed ts (t ∷ []),
-                      sets_append old to (map packed ts) (packed t ∷ []),
+                      sets_append old a.to (map packed ts) (packed t ∷ []),
                       length-map ts packed,
                       ← told.counted,
                       ← told.stored,
                       ← row.numbered,
                     );
                     counted = simp length-append (omega (arith, told.counted));
-                    fit = rw (rows_fit-append n arity ts (t ∷ []), told.fit, fits n t row);
+                    fit = rw (rows_fit-append a.domain a.arity ts (t ∷ []), told.fit, fits t row);
                     ordered = rw (
-                      ascending-more n arity small (some n t row) ts t told.fit (fits n t row),
+                      ascending-more a.domain a.arity a.small (some t row) ts t told.fit (fits t row),
                       told.ordered,
                       ← told.order,
                       ← row.order,
-                    ) (lt-ltb last rank after);
+                    ) (lt-ltb kept.last one.rank after);
                     order = row.order ∙ sym (last_rank-more ts t);
                     room = simp length-append (omega (arith, told.counted));
                   }

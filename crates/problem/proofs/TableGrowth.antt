@@ -6,12 +6,14 @@ use native.Mathlib.Omega.{arith}
 use mathlib.Core.Path.{◌≡◌, refl, sym, ap, ap₂, ◌∙◌}
 use mathlib.Core.List.{List, [], ◌∷◌, ◌++◌, append_assoc, map}
 use mathlib.Core.Bool.{true}
-use lib.ListN.{length, get_or, take, drop, set, length-map}
+use lib.ListN.{length, take, drop, set, length-map}
 use lib.Seq.{sets, sets-eq, get_or-set_same, get_or-set_other, take-set-le, drop-set-add, length-take-le, drop_at, take-append_seam}
 use Rattle.grammar.specs.Bytes.{Bytes}
 use Rattle.grammar.specs.Problem.{Row, Predicate, Input, Problem, row_fits, rows_fit, with_input, with_output}
 use Rattle.grammar.proofs.Laws.{and_left, and_right}
-use Rattle.table.specs.memory.Table.{packed, unpacked, indexed, table_predicate, table_input, problem_in, Columns, with_domain, with_name, with_rows, counted}
+use Rattle.text.specs.declared.name.Name.{Name as Place}
+use Rattle.table.specs.memory.Table.{packed, unpacked, indexed, nothing, entry, name_at, table_predicate, table_input, problem_in, Sized, with_domain, with_entry, with_name, with_rows, counted}
+use Rattle.table.specs.declared.table.Predicate.{Predicate as Entry}
 use Rattle.table.specs.declared.table.Table.{Table}
 use Rattle.table.proofs.Packing.{unpacked-packed}
 use Rattle.table.proofs.Tables.{indexed-append, indexed_agree}
@@ -53,38 +55,45 @@ module _ (text : Bytes) (table : Table) (n : ℕ) (rows : List ℕ) where
   unfolding problem_in
   inputs-domain = refl
 
+-- An entry, and what stands at the other indices.
+
+-- a predicate and an input by their entry
+abbrev predicate_of : Bytes → Entry → Predicate
+predicate_of text e = record { name = name_at text e.name; arity = e.arity }
+
+abbrev input_of : Bytes → List ℕ → Entry → Input
+input_of text rows e = record { predicate = predicate_of text e; rows = map (unpacked e.arity) (take e.rows (drop e.first rows)) }
+
+module _ (table : Table) (e : Entry) where
+  entry_other : (i : ℕ) → i < table.count → entry (with_entry table e) i ≡ entry table i
+  entry_other i h = get_or-set_other table.predicates table.count i e nothing (λ same. absurd (omega arith))
+
+  pub entry_there : Sized table → table.count < 32 → entry (with_entry table e) table.count ≡ e
+  entry_there sized room = get_or-set_same table.predicates table.count e nothing (omega arith)
+
 -- A name entered.
 
 -- a problem by its parts
 problem_from : ℕ → List Input → List Predicate → Problem
 problem_from n is os = record { domain = n; inputs = is; outputs = os }
 
-module _ (text : Bytes) (table : Table) (start size arity : ℕ) (rows : List ℕ) (inside : table.inputs ≤ table.count) where
+module _ (text : Bytes) (table : Table) (name : Place) (arity : ℕ) (rows : List ℕ) (inside : table.inputs ≤ table.count) where
   abbrev named : Table
-  named = with_name table start size arity
+  named = with_name table name arity
 
-  module _ (i : ℕ) (h : i < table.count) where
-    other : i ≡ table.count → ⊥
-    other e = absurd (omega arith)
-
-    predicate-kept : table_predicate text named i ≡ table_predicate text table i
-    predicate-kept =
-        rw (
-          get_or-set_other table.start table.count i start 0 other,
-          get_or-set_other table.size table.count i size 0 other,
-          get_or-set_other table.arity table.count i arity 0 other,
-        )
-
-    input_kept : table_input text named rows i ≡ table_input text table rows i
-    input_kept = rw (predicate-kept, get_or-set_other table.arity table.count i arity 0 other)
+  abbrev joined : Entry
+  joined = record { name = name; arity = arity; first = (entry table table.count).first; rows = (entry table table.count).rows }
 
   inputs-kept : indexed (table_input text named rows) 0 table.inputs ≡ indexed (table_input text table rows) 0 table.inputs
-  inputs-kept = indexed_agree (table_input text named rows) (table_input text table rows) table.inputs 0 λ k low high. input_kept k (omega arith)
+  inputs-kept =
+      indexed_agree (table_input text named rows) (table_input text table rows) table.inputs 0
+      λ k low high. ap (input_of text rows) (entry_other table joined k (omega arith))
 
   outputs-kept : indexed (table_predicate text named) table.inputs (table.count - table.inputs)
       ≡ indexed (table_predicate text table) table.inputs (table.count - table.inputs)
   outputs-kept =
-      indexed_agree (table_predicate text named) (table_predicate text table) (table.count - table.inputs) table.inputs λ k low high. predicate-kept k (omega arith)
+      indexed_agree (table_predicate text named) (table_predicate text table) (table.count - table.inputs) table.inputs
+      λ k low high. ap (predicate_of text) (entry_other table joined k (omega arith))
 
   pub problem-named : problem_in text named rows ≡ problem_in text table rows
   unfolding problem_in problem_from
@@ -101,37 +110,39 @@ module _ (text : Bytes) (table : Table) (start size arity : ℕ) (rows : List �
       sym (ap (λ ps. ps ++ (table_predicate text named table.count ∷ [])) (sym outputs-kept)
       ∙ rw (e, f) at (indexed-append (table_predicate text named) n 1 table.inputs)))
 
+-- and so do the places of the rows
+pub stored_named : (table : Table) (name : Place) (arity used : ℕ) → table.inputs ≤ table.count
+    → ((i : ℕ) → i < table.inputs → (entry table i).first + (entry table i).rows ≤ used)
+    → (i : ℕ) → i < table.inputs → (entry (with_name table name arity) i).first + (entry (with_name table name arity) i).rows ≤ used
+stored_named table name arity used inside stored i h =
+    let e = entry_other table (record { name = name; arity = arity; first = (entry table table.count).first; rows = (entry table table.count).rows }) i (omega arith) in
+    rw e (stored i h)
+
 -- Rows stored.
 
-module _ (text : Bytes) (table : Table) (columns : Columns table) (room : table.count < 32) (alone : table.count ≡ table.inputs)
-    (rows : List ℕ) (used : ℕ) (apart : (i : ℕ) → i < table.inputs → get_or table.first i 0 + get_or table.rows i 0 ≤ used)
-    (n : ℕ) (small : n ≤ 64) (ts : List Row) (fit : rows_fit n (get_or table.arity table.count 0) ts ≡ true)
+module _ (text : Bytes) (table : Table) (sized : Sized table) (room : table.count < 32) (alone : table.count ≡ table.inputs)
+    (rows : List ℕ) (used : ℕ) (apart : (i : ℕ) → i < table.inputs → (entry table i).first + (entry table i).rows ≤ used)
+    (n : ℕ) (small : n ≤ 64) (ts : List Row) (fit : rows_fit n (entry table table.count).arity ts ≡ true)
     (fits : used + length ts ≤ length rows) where
   abbrev grown : Table
   grown = counted (with_rows table used (length ts)) (table.inputs + 1) (table.count + 1)
+
+  abbrev filled : Entry
+  filled = record { name = (entry table table.count).name; arity = (entry table table.count).arity; first = used; rows = length ts }
 
   abbrev after : List ℕ
   after = sets rows used (map packed ts)
 
   old_input : (i : ℕ) → i < table.inputs → table_input text grown after i ≡ table_input text table rows i
   old_input i h =
-      let other : i ≡ table.count → ⊥ = λ e. absurd (omega arith) in
-      rw (
-        get_or-set_other table.first table.count i used 0 other,
-        get_or-set_other table.rows table.count i (length ts) 0 other,
-        stored-before (map packed ts) rows used (get_or table.first i 0) (get_or table.rows i 0) (apart i h),
-      )
+      ap (input_of text after) (entry_other table filled i (omega arith))
+      ∙ rw (stored-before (map packed ts) rows used (entry table i).first (entry table i).rows (apart i h))
 
   new_input : table_input text grown after table.count ≡ record { predicate = table_predicate text table table.count; rows = ts }
   new_input =
       let e = length-map ts packed in
-      rw (
-        get_or-set_same table.first table.count used 0 (omega (arith, columns.firsts)),
-        get_or-set_same table.rows table.count (length ts) 0 (omega (arith, columns.counts)),
-        ← e,
-        stored_there (map packed ts) rows used (omega arith),
-        rows_back n (get_or table.arity table.count 0) small ts fit,
-      )
+      ap (input_of text after) (entry_there table filled sized room)
+      ∙ rw (← e, stored_there (map packed ts) rows used (omega arith), rows_back n (entry table table.count).arity small ts fit)
 
   pub problem_input : problem_in text grown after ≡ with_input (problem_in text table rows) (table_predicate text table table.count) ts
   unfolding problem_in problem_from indexed
@@ -147,17 +158,11 @@ module _ (text : Bytes) (table : Table) (columns : Columns table) (room : table.
       rw (e, f))
 
   -- every input's numbers stand before the next place
-  pub stored_input : (i : ℕ) → i < table.inputs + 1 → get_or grown.first i 0 + get_or grown.rows i 0 ≤ used + length ts
+  pub stored_input : (i : ℕ) → i < table.inputs + 1 → (entry grown i).first + (entry grown i).rows ≤ used + length ts
   stored_input i h = pick (dec_lt i table.inputs)
     where
-      pick : Dec (i < table.inputs) → get_or grown.first i 0 + get_or grown.rows i 0 ≤ used + length ts
-      pick (yes k) =
-          let other : i ≡ table.count → ⊥ = λ e. absurd (omega arith) in
-          rw (get_or-set_other table.first table.count i used 0 other, get_or-set_other table.rows table.count i (length ts) 0 other) (omega (arith, apart i k))
+      pick : Dec (i < table.inputs) → (entry grown i).first + (entry grown i).rows ≤ used + length ts
+      pick (yes k) = rw (entry_other table filled i (omega arith)) (omega (arith, apart i k))
       pick (no k) =
           let e : i ≡ table.count = omega arith in
-          rw (
-            e,
-            get_or-set_same table.first table.count used 0 (omega (arith, columns.firsts)),
-            get_or-set_same table.rows table.count (length ts) 0 (omega (arith, columns.counts)),
-          ) (omega arith)
+          rw (e, entry_there table filled sized room) (omega arith)

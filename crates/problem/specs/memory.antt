@@ -1,3 +1,4 @@
+pub mod Faults
 pub mod Declarations
 pub mod Rows
 pub mod ProblemLines

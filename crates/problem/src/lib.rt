@@ -2,5 +2,8 @@
 #![tactic(auto)]
 
 pub mod declaration;
+pub mod end;
+pub mod fault;
 pub mod problem_line;
+pub mod progress;
 pub mod rows;

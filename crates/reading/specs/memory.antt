@@ -1,3 +1,4 @@
+pub mod Faults
 pub mod FormulaReads
 pub mod Openings
 pub mod PartReads

@@ -1,141 +1,119 @@
 // Truth values, equalities and atoms of the theory's text, read into words and judged on the way.
-ghost use Rattle.std.specs.Prelude.{◌≡◌, ◌&&◌, ℕ, ◌+◌, ◌≤◌, ◌<◌, length, take, drop};
-ghost use Rattle.grammar.specs.Problem.{Name, Problem, predicates, declared, is_input};
+ghost use Rattle.std.specs.Prelude.{◌≡◌, true, ◌&&◌, ◌+◌, ◌≤◌, ◌<◌, length, set};
+ghost use Rattle.grammar.specs.Problem.{predicates, declared, is_input};
 ghost use Rattle.logic.specs.Reading.{read_equality, read_atom};
-ghost use Rattle.text.specs.memory.Sizes.{ShortText, FewElements, FewPredicates};
+ghost use Rattle.table.specs.memory.Table.{name_at};
+ghost use Rattle.words.specs.memory.Words.{truth_word};
 ghost use Rattle.terms.specs.memory.Signature.{signature_of};
-ghost use Rattle.terms.specs.memory.Bindings.{bound_in};
 ghost use Rattle.terms.specs.memory.Facts.{simple_facts};
-ghost use Rattle.terms.specs.memory.Entries.{setting, setting_of, memory};
-ghost use Rattle.reading.specs.memory.FormulaReads.{read_leaf, Told};
+ghost use Rattle.terms.specs.memory.Entries.{setting_of, memory};
+ghost use Rattle.reading.specs.memory.FormulaReads.{read_leaf, read_to, ToldLeaf};
 
-use crate::read::Read;
-use table::table::{Table, find};
-use terms::binding::Scope;
-use terms::fact::{Facts, both, simple_facts};
+use crate::read::Measured;
+use terms::fact::Facts;
+use terms::name_table::NameTable;
+use terms::setting::Setting;
 use terms::signature::{is_declared, is_input};
-use terms::term::{TermsRead, closed_terms, predicate_end, read_arguments};
-use text::byte::{Ended, begins_at};
-use text::cell::set_number;
-use text::name::part;
-use words::tag::{ATOM, EQUALITY, FALSE, TRUE};
+use terms::term::{Terms, closed_terms, predicate_at, read_arguments};
+use text::byte::begins_at;
+use text::cell::set;
+use text::name::Name;
+use text::read::Read;
+use words::head::truth_word;
+use words::tag::Tag;
 
 // What follows `=(`.
 fn read_equality(
-    text: &[u8],
+    setting: &Setting,
     at: usize,
-    scope: Scope,
-    domain: u32,
-    names: &mut [u32; 131],
+    names: &mut NameTable,
     work: &mut [u32],
     to: usize,
-) -> Read
-    requires { (at ≤ length text.now) × ShortText text.now × FewElements domain × (to < at + 1000000) }
-    ensures { (P : Problem) (index : Name → ℕ) → P.domain ≡ domain → Told read_equality (setting text.now (bound_in text.now scope) P index) at (memory names.old work.old) to result (memory names.new work.new) }
+) -> Option<Read<Measured>>
+    requires { (at ≤ length setting.now.text.now) × (to < at + 1000000) }
+    ensures { ToldLeaf read_equality (setting_of setting.now) at (memory names.old work.old) to result (memory names.new work.new) }
 {
-    match closed_terms(text, at, 1, scope, domain, names, work, to + 1) {
-        TermsRead::Done { next, count, named } => {
-            if count != 2 {
-                return Read::Malformed;
-            }
-            set_number(work, to, EQUALITY);
-            Read::Done {
-                next,
-                size: 3,
-                facts: simple_facts(named, true),
-            }
-        }
-        TermsRead::Malformed => Read::Malformed,
+    let terms = closed_terms(setting, at, 1, names, work, to + 1)?;
+    if terms.value.count != 2 {
+        return None;
     }
+    set(work, to, Tag::Equality.word(0));
+    let facts = Facts::simple(terms.value.named, true);
+    Some(Read {
+        value: Measured { size: 3, facts },
+        next: terms.next,
+    })
 }
 
-fn atom_facts(
-    problem: &[u8],
-    table: Table,
-    text: &[u8],
-    at: usize,
-    size: usize,
-    count: usize,
-    named: bool,
-) -> Facts
-    ensures { result ≡ simple_facts (declared (predicates (signature_of problem.now table)) (take size (drop at text.now)) count && named) (is_input (signature_of problem.now table) (take size (drop at text.now))) }
+fn atom_facts(setting: &Setting, name: Name, terms: Terms) -> Facts
+    ensures { result ≡ simple_facts (declared (predicates (signature_of setting.now.problem.now setting.now.table.now)) (name_at setting.now.text.now name) terms.count && terms.named) (is_input (signature_of setting.now.problem.now setting.now.table.now) (name_at setting.now.text.now name)) }
 {
-    let name = part(text, at, size);
-    let declared = is_declared(problem, table, name, count);
-    simple_facts(both(declared, named), is_input(problem, table, name))
+    let name = name.of(setting.text);
+    let declared = is_declared(setting.problem, setting.table, name, terms.count);
+    let input = is_input(setting.problem, setting.table, name);
+    Facts::simple(declared && terms.named, input)
 }
 
 fn read_atom(
-    text: &[u8],
+    setting: &Setting,
     at: usize,
-    scope: Scope,
-    problem: &[u8],
-    table: Table,
-    names: &mut [u32; 131],
+    names: &mut NameTable,
     work: &mut [u32],
     to: usize,
-) -> Read
-    requires { (at ≤ length text.now) × ShortText text.now × (to ≤ at + 1000000) × FewElements table.domain × FewPredicates table.count }
-    ensures { Told read_atom (setting_of text.now scope problem.now table) at (memory names.old work.old) to result (memory names.new work.new) }
+) -> Option<Read<Measured>>
+    requires { (at ≤ length setting.now.text.now) × (to ≤ at + 1000000) }
+    ensures { ToldLeaf read_atom (setting_of setting.now) at (memory names.old work.old) to result (memory names.new work.new) }
 {
-    match predicate_end(text, at) {
-        Ended::At(end) => match read_arguments(
-            text,
-            end,
-            scope,
-            table.domain,
-            names,
-            work,
-            to + 1,
-        ) {
-            TermsRead::Done { next, count, named } => {
-                let size = end - at;
-                let index = find(problem, table, text, at, size);
-                set_number(work, to, (count as u32 * 256 + index) * 16 + ATOM);
-                Read::Done {
-                    next,
-                    size: count + 1,
-                    facts: atom_facts(problem, table, text, at, size, count, named),
-                }
-            }
-            TermsRead::Malformed => Read::Malformed,
+    let name = predicate_at(setting, at)?;
+    let terms = read_arguments(setting, name.next, names, work, to + 1)?;
+    let Terms { count, named: _ } = terms.value;
+    let found = setting
+        .table
+        .find(setting.problem, name.value.of(setting.text));
+    let index = found.unwrap_or(setting.table.count);
+    set(work, to, Tag::Atom.word(count as u32 * 256 + index));
+    Some(Read {
+        value: Measured {
+            size: count + 1,
+            facts: atom_facts(setting, name.value, terms.value),
         },
-        Ended::Malformed => Read::Malformed,
-    }
+        next: terms.next,
+    })
+}
+
+fn read_truth(value: bool, work: &mut [u32], to: usize, next: usize) -> Option<Read<Measured>>
+    ensures is { result ≡ Some (read_to 1 (simple_facts true true) next) }
+    ensures stored { work.new ≡ set work.old to (truth_word value) }
+{
+    set(work, to, truth_word(value));
+    Some(Read {
+        value: Measured {
+            size: 1,
+            facts: Facts::simple(true, true),
+        },
+        next,
+    })
 }
 
 // The formula at a place, if it has no formula in it.
 pub fn read_leaf(
-    text: &[u8],
+    setting: &Setting,
     at: usize,
-    scope: Scope,
-    problem: &[u8],
-    table: Table,
-    names: &mut [u32; 131],
+    names: &mut NameTable,
     work: &mut [u32],
     to: usize,
-) -> Read
-    requires { (at ≤ length text.now) × ShortText text.now × (to ≤ at + 1000000) × FewElements table.domain × FewPredicates table.count }
-    ensures { Told read_leaf (setting_of text.now scope problem.now table) at (memory names.old work.old) to result (memory names.new work.new) }
+) -> Option<Read<Measured>>
+    requires { (at ≤ length setting.now.text.now) × (to ≤ at + 1000000) }
+    ensures { ToldLeaf read_leaf (setting_of setting.now) at (memory names.old work.old) to result (memory names.new work.new) }
 {
-    if begins_at(text, at, b"true") {
-        set_number(work, to, TRUE);
-        return Read::Done {
-            next: at + 4,
-            size: 1,
-            facts: simple_facts(true, true),
-        };
+    if begins_at(setting.text, at, b"true") {
+        return read_truth(true, work, to, at + 4);
     }
-    if begins_at(text, at, b"false") {
-        set_number(work, to, FALSE);
-        return Read::Done {
-            next: at + 5,
-            size: 1,
-            facts: simple_facts(true, true),
-        };
+    if begins_at(setting.text, at, b"false") {
+        return read_truth(false, work, to, at + 5);
     }
-    if begins_at(text, at, b"=(") {
-        return read_equality(text, at + 2, scope, table.domain, names, work, to);
+    if begins_at(setting.text, at, b"=(") {
+        return read_equality(setting, at + 2, names, work, to);
     }
-    read_atom(text, at, scope, problem, table, names, work, to)
+    read_atom(setting, at, names, work, to)
 }

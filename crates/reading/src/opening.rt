@@ -1,79 +1,51 @@
 // How a formula of the theory's text opens.
 ghost use Rattle.std.specs.Prelude.{◌≡◌, ◌≤◌, length, drop};
-ghost use Rattle.text.specs.memory.Sizes.{ShortText};
-ghost use Rattle.reading.specs.memory.Openings.{bracket_opening, opening_of};
+ghost use Rattle.reading.specs.memory.Openings.{opening_among, opening_of};
 
 use text::byte::begins_at;
+use text::read::Read;
 use words::word::Sign;
 
-// A formula without formulas in it; or a connective or a quantifier, and where what follows its sign begins.
+// The sign of a formula with formulas in it.
 #[derive(Clone, Copy)]
 pub enum Opening {
-    Leaf,
-    Connective { sign: Sign, next: usize },
-    Quantifier { every: bool, next: usize },
+    Connective(Sign),
+    Quantifier { every: bool },
 }
 
-// A connective with a bracket, at a place.
-fn bracket_opening(text: &[u8], at: usize) -> Opening
-    requires { (at ≤ length text.now) × ShortText text.now }
-    ensures { result ≡ bracket_opening at (drop at text.now) }
+// Each sign, with the word that it is written with.
+const OPENINGS: [(&[u8], Opening); 8] = [
+    (b"~", Opening::Connective(Sign::Negation)),
+    (b"!", Opening::Quantifier { every: true }),
+    (b"?", Opening::Quantifier { every: false }),
+    (b"&(", Opening::Connective(Sign::Junction { every: true })),
+    (b"|(", Opening::Connective(Sign::Junction { every: false })),
+    (b"=>(", Opening::Connective(Sign::Implies)),
+    (b"<=(", Opening::Connective(Sign::ImpliedBy)),
+    (b"<=>(", Opening::Connective(Sign::Equivalent)),
+];
+
+// The first of some signs whose word stands at a place.
+fn opening_among(text: &[u8], at: usize, openings: &[(&[u8], Opening)]) -> Option<Read<Opening>>
+    requires { at ≤ length text.now }
+    ensures { result ≡ opening_among at (drop at text.now) openings.now }
 {
-    if begins_at(text, at, b"&(") {
-        return Opening::Connective {
-            sign: Sign::Junction { every: true },
-            next: at + 2,
-        };
+    for (word, opening) in openings {
+        if begins_at(text, at, word) {
+            return Some(Read {
+                value: *opening,
+                next: at + word.len(),
+            });
+        }
     }
-    if begins_at(text, at, b"|(") {
-        return Opening::Connective {
-            sign: Sign::Junction { every: false },
-            next: at + 2,
-        };
-    }
-    if begins_at(text, at, b"=>(") {
-        return Opening::Connective {
-            sign: Sign::Implies,
-            next: at + 3,
-        };
-    }
-    if begins_at(text, at, b"<=(") {
-        return Opening::Connective {
-            sign: Sign::ImpliedBy,
-            next: at + 3,
-        };
-    }
-    if begins_at(text, at, b"<=>(") {
-        return Opening::Connective {
-            sign: Sign::Equivalent,
-            next: at + 4,
-        };
-    }
-    Opening::Leaf
+    None
 }
 
-// How the formula at a place opens.
-pub fn opening_at(text: &[u8], at: usize) -> Opening
-    requires { (at ≤ length text.now) × ShortText text.now }
+// The sign that the formula at a place opens with, and the place behind it; none, if the formula has no formula in it.
+#[tactic(auto, unfolding(crate::specs::memory::Openings::opening_of, crate::specs::memory::Openings::bracket_opening))]
+pub fn opening_at(text: &[u8], at: usize) -> Option<Read<Opening>>
+    requires { at ≤ length text.now }
     ensures { result ≡ opening_of at (drop at text.now) }
 {
-    if begins_at(text, at, b"~") {
-        return Opening::Connective {
-            sign: Sign::Negation,
-            next: at + 1,
-        };
-    }
-    if begins_at(text, at, b"!") {
-        return Opening::Quantifier {
-            every: true,
-            next: at + 1,
-        };
-    }
-    if begins_at(text, at, b"?") {
-        return Opening::Quantifier {
-            every: false,
-            next: at + 1,
-        };
-    }
-    bracket_opening(text, at)
+    opening_among(text, at, &OPENINGS)
 }

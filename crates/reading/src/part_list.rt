@@ -1,7 +1,6 @@
 // How the parts of a connective are listed and closed: `~` has one, `=>`, `<=` and `<=>` have two and a bracket behind them, `&` and `|` none, one
 // or more and a bracket.
-ghost use Rattle.std.specs.Prelude.{◌≡◌, ◌&&◌, ◌≤◌, eqb, length, drop};
-ghost use Rattle.grammar.specs.Bytes.{next};
+ghost use Rattle.std.specs.Prelude.{◌≡◌, ◌≤◌, length, drop};
 ghost use Rattle.words.specs.memory.Stored.{connective_of};
 ghost use Rattle.reading.specs.memory.PartReads.{none_follow, further_parts, another_follows, parts_close, close_size};
 
@@ -13,11 +12,8 @@ pub fn none_follow(text: &[u8], at: usize, sign: Sign) -> bool
     ensures { result ≡ none_follow (connective_of sign) (drop at text.now) }
 {
     match sign {
-        Sign::Negation => false,
-        Sign::Implies => false,
-        Sign::ImpliedBy => false,
-        Sign::Equivalent => false,
-        Sign::Junction { every: _ } => peek(text, at) == b')',
+        Sign::Junction { .. } => peek(text, at) == b')',
+        _ => false,
     }
 }
 
@@ -27,10 +23,8 @@ pub fn further_parts(text: &[u8], sign: Sign) -> usize
 {
     match sign {
         Sign::Negation => 0,
-        Sign::Implies => 1,
-        Sign::ImpliedBy => 1,
-        Sign::Equivalent => 1,
-        Sign::Junction { every: _ } => text.len(),
+        Sign::Junction { .. } => text.len(),
+        _ => 1,
     }
 }
 
@@ -38,19 +32,7 @@ pub fn further_parts(text: &[u8], sign: Sign) -> usize
 pub fn another_follows(text: &[u8], at: usize, more: usize) -> bool
     ensures { result ≡ another_follows more (drop at text.now) }
 {
-    if more == 0 {
-        return false;
-    }
-    peek(text, at) == b','
-}
-
-fn close_two(text: &[u8], at: usize, count: usize) -> bool
-    ensures { result ≡ (eqb count 2 && eqb (next (drop at text.now)) 41) }
-{
-    if count != 2 {
-        return false;
-    }
-    peek(text, at) == b')'
+    more != 0 && peek(text, at) == b','
 }
 
 // Whether so many parts of a connective are closed.
@@ -59,10 +41,8 @@ pub fn parts_close(text: &[u8], at: usize, sign: Sign, count: usize) -> bool
 {
     match sign {
         Sign::Negation => count == 1,
-        Sign::Implies => close_two(text, at, count),
-        Sign::ImpliedBy => close_two(text, at, count),
-        Sign::Equivalent => close_two(text, at, count),
-        Sign::Junction { every: _ } => peek(text, at) == b')',
+        Sign::Junction { .. } => peek(text, at) == b')',
+        _ => count == 2 && peek(text, at) == b')',
     }
 }
 
@@ -72,9 +52,6 @@ pub fn close_size(sign: Sign) -> usize
 {
     match sign {
         Sign::Negation => 0,
-        Sign::Implies => 1,
-        Sign::ImpliedBy => 1,
-        Sign::Equivalent => 1,
-        Sign::Junction { every: _ } => 1,
+        _ => 1,
     }
 }

@@ -1,3 +1,2 @@
-pub mod Cleared
 pub mod Printing
 pub mod Concluding

@@ -1,5 +1,4 @@
 // The jobs replay and check.
 #![tactic(auto)]
 
-pub mod clearing;
 pub mod job;

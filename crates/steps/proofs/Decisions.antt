@@ -1,8 +1,10 @@
 -- What is decided of a formula in memory, and the theory with it done: a rule fits only where a word stands, and flags matter for IQ alone.
 -- Assumes nothing.
-use Prim.Native.Nat.{ℕ, zero, suc, ◌≤◌, ◌<◌}
+use Prim.Native.Nat.{ℕ, ◌≤◌, ◌<◌}
 use native.Mathlib.Omega.{arith}
-use mathlib.Core.Path.{◌≡◌, refl, sym, ap, ◌∙◌}
+use mathlib.Core.Path.{◌≡◌, refl, sym, ap, subst, ◌∙◌}
+use Rattle.std.specs.Prelude.{Option, Some, None, Result, Ok, Err, ok_or}
+use Rattle.std.specs.Result.{IsErrAnd}
 use mathlib.Core.List.{List, []}
 use mathlib.Core.Bool.{Bool, true, false, false≢true}
 use borrow.Author.Tests.{le-leb, lt-leb}
@@ -23,11 +25,14 @@ use Rattle.formula.specs.memory.Rewriting.{end_within, rewritten_words}
 use Rattle.formula.specs.declared.decide.Fit.{Fit}
 use Rattle.formula.specs.declared.decide.Fit.TheVariants as fit
 use Rattle.steps.specs.memory.Held.{Held, held, whole_in, is_value, value_in, exchanged, misfit, unless_refused, sized_in, made_in}
-use Rattle.steps.specs.memory.Steps.{Flagged}
+use Rattle.steps.specs.memory.Fault.{number}
+use Rattle.steps.specs.memory.Decisions.{Flagged}
+use Rattle.steps.specs.declared.fault.Fault.{Fault}
+use Rattle.steps.specs.declared.fault.Fault.TheVariants as fault
 
 -- Where no word stands, no rule fits.
 
-fit_nothing : (table : Table) (rows : List ℕ) (rule : Rule) → rule_fit table rows rule [] ≡ fit.Misfit
+fit_nothing : (table : Table) (rows : List ℕ) (rule : Rule) → rule_fit table rows rule [] ≡ None
 fit_nothing table rows Snand = ap (junction_fit true) (kind_truth false)
 fit_nothing table rows Snor = ap (junction_fit false) (kind_truth false)
 fit_nothing table rows Stn = ap (λ (k : Kind). negation_fit k (kind_of 0)) (kind_truth false)
@@ -35,9 +40,9 @@ fit_nothing table rows Epred = ap (λ (k : Kind). evaluation_fit table rows true
 fit_nothing table rows Eprop = ap (λ (k : Kind). evaluation_fit table rows false k []) (kind_truth false)
 fit_nothing table rows Iq = ap quantifier_fit (kind_truth false)
 
-pub fit-here : (table : Table) (rows : List ℕ) (rule : Rule) (words : List ℕ) (at : ℕ) → (rule_fit table rows rule (drop at words) ≡ fit.Misfit → ⊥) → at < length words
-fit-here table rows rule words at fits =
-    let inside : length words ≤ at → ⊥ = λ h. fits (ap (rule_fit table rows rule) (drop_of_length-le words h) ∙ fit_nothing table rows rule) in
+pub fit_here : (table : Table) (rows : List ℕ) (rule : Rule) (words : List ℕ) (at : ℕ) (decided : Fit) → rule_fit table rows rule (drop at words) ≡ Some decided → at < length words
+fit_here table rows rule words at decided e =
+    let inside : length words ≤ at → ⊥ = λ h. let z = sym (ap (rule_fit table rows rule) (drop_of_length-le words h) ∙ fit_nothing table rows rule) ∙ e in cc in
     omega arith
 
 -- and none that passes a test which 0, the word of `false`, fails
@@ -60,31 +65,59 @@ module _ (table : Table) (rows : List ℕ) (rule : Rule) (m : Held) (at : ℕ) w
   abbrev rest : List ℕ
   rest = drop at m.words
 
-  refuses : (n : ℕ) (o : Outcome ℕ Held) → (n ≡ 0 → ⊥) → unless_refused n o ≡ refused n
-  refuses zero o some = absurd (some refl)
-  refuses (suc n) o some = refl
-
-  pub made_refused : (number : ℕ) → number ≡ misfit (rule_fit table rows rule rest) rest → (number ≡ 0 → ⊥) → made_in table rows rule m at ≡ refused number
+  pub made_refused : (f : Fault) → misfit (rule_fit table rows rule rest) rest ≡ number f → made_in table rows rule m at ≡ refused (number f)
   unfolding made_in
-  made_refused number e some = rw (← e) (refuses number _ some)
+  made_refused f e = rw e (refuses _ f)
+    where
+      refuses : (o : Outcome ℕ Held) (f : Fault) → unless_refused (number f) o ≡ refused (number f)
+      refuses o fault.Malformed = refl
+      refuses o fault.Name = refl
+      refuses o fault.Path = refl
+      refuses o fault.Rule = refl
+      refuses o fault.Guard = refl
+      refuses o fault.Size = refl
+      refuses o fault.Footer = refl
+      refuses o fault.Clause = refl
 
   sized_flags : (decided : Fit) (flags : List Bool) → Flagged table rows rest decided flags
-      → sized_in m at decided (admitted_flags table rows 32 rest) ≡ sized_in m at decided (take table.domain flags)
+      → sized_in m at (Some decided) (admitted_flags table rows 32 rest) ≡ sized_in m at (Some decided) (take table.domain flags)
   unfolding sized_in rewritten_words
   sized_flags (fit.Value b) flags f = refl
   sized_flags (fit.Junction b) flags f = refl
   sized_flags fit.Quantifier flags f = rw f
-  sized_flags fit.Misfit flags f = refl
 
-  pub made_fits : (decided : Fit) (flags : List Bool) → decided ≡ rule_fit table rows rule rest
-      → misfit (rule_fit table rows rule rest) rest ≡ 0 → Flagged table rows rest decided flags
-      → made_in table rows rule m at ≡ sized_in m at decided (take table.domain flags)
+  pub made_fits : (decided : Fit) (flags : List Bool) → rule_fit table rows rule rest ≡ Some decided → misfit (Some decided) rest ≡ 0 → Flagged table rows rest decided flags
+      → made_in table rows rule m at ≡ sized_in m at (Some decided) (take table.domain flags)
   unfolding made_in
-  made_fits decided flags is e f = rw (e, ← is) (sized_flags decided flags f)
+  made_fits decided flags is e f = rw (is, e) (sized_flags decided flags f)
+
+-- What a function answers where it hands on a refusal.
+module _ {A : Type 0} (T : Result A Fault → Type 0) (r : Result A Fault) (f : Fault) (gives : IsErrAnd r (λ e. e ≡ f)) where
+  pub handed_on : T (Err f) → T r
+  handed_on = pick r gives
+    where
+      pick : (r : Result A Fault) → IsErrAnd r (λ e. e ≡ f) → T (Err f) → T r
+      pick (Ok a) h t = absurd h
+      pick (Err e) h t = subst (λ (e : Fault). T (Err e)) (sym h) t
+
+module _ {B : Type 0} (o : Option B) (f : Fault) where
+  pub some_of_ok : {b : B} → ok_or o f ≡ Ok b → o ≡ Some b
+  some_of_ok e = pick o e
+    where
+      pick : (o : Option B) {b : B} → ok_or o f ≡ Ok b → o ≡ Some b
+      pick (Some c) e = cc
+      pick None e = cc
+
+  pub none_of_err : {g : Fault} → ok_or o f ≡ Err g → (o ≡ None) × (g ≡ f)
+  none_of_err e = pick o e
+    where
+      pick : (o : Option B) {g : Fault} → ok_or o f ≡ Err g → (o ≡ None) × (g ≡ f)
+      pick (Some c) e = cc
+      pick None e = (refl, cc)
 
 -- 15
 
-module _ (m : Held) (at : ℕ) (decided : Fit) (flags : List Bool) where
+module _ (m : Held) (at : ℕ) (decided : Option Fit) (flags : List Bool) where
   abbrev pub made_words : List ℕ
   made_words = exchanged m.words at (end_within m.words at (length m.words)) (rewritten_words decided m.words at (length m.words) flags)
 

@@ -3,22 +3,27 @@
 use Prim.Native.Nat.{ℕ, ◌+◌, ◌-◌, ◌≤◌, ◌<◌}
 use native.Mathlib.Omega.{arith}
 use mathlib.Core.Path.{◌≡◌, sym, ap, ap₂, ◌∙◌}
-use mathlib.Core.List.{List, [], ◌∷◌, ◌++◌}
-use mathlib.Core.Bool.{Bool, true, false}
+use Rattle.std.specs.Prelude.{Option}
+use mathlib.Core.List.{List, [], ◌++◌}
+use mathlib.Core.Bool.{Bool, false}
 use borrow.Rule.Slice.PartMut.{put_mid}
-use lib.ListN.{length, take, drop, set, length-set, length-drop}
-use lib.Seq.{slice, length-take-le, length_front, take-take, take-set-le, take-set-lt, drop-set-lt, take-suc-set, drop-cons, get_or-set_same}
-use Rattle.grammar.specs.Outcome.{done, refused}
-use Rattle.words.specs.memory.Words.{truth_word}
-use Rattle.words.specs.memory.Storing.{spliced, Roomy, Fronted}
+use lib.ListN.{length, take, drop, length-drop}
+use lib.Seq.{slice, length-take-le, length_front, take-take}
+use Rattle.grammar.specs.Outcome.{Outcome, done, refused}
+use Rattle.words.specs.memory.Storing.{spliced, Fronted}
 use Rattle.formula.specs.memory.Rewriting.{end_within, rewritten_words}
 use Rattle.formula.specs.declared.decide.Fit.{Fit}
-use Rattle.steps.specs.memory.Held.{held, exchanged, sized_in, opened_in}
-use Rattle.steps.specs.memory.Steps.{live_names, held_in, Arranged, Few, Stepped}
+use Rattle.steps.specs.memory.Held.{Held, held, exchanged, sized_in, opened_in}
+use Rattle.steps.specs.memory.Steps.{live_names, rows_in, held_in, Arranged, Few}
 use Rattle.steps.specs.declared.live.Live.{Live}
 use Rattle.steps.specs.declared.live.Layout.{Layout}
 use Rattle.steps.proofs.Regions.{behind_front, within_front, slice_behind, within_end, end-part, slice_before, spliced_front, made_front, part_end, put_end}
 use Rattle.steps.proofs.Decisions.{made_words, sized_over, sized-within}
+
+-- the live formulas after a line are in memory, and the rows are as they were
+pub record Moved (outcome : Outcome ℕ Held) (layout : Layout) (old : List ℕ) (live : Live) (work : List ℕ) : Type 0 where
+  pub is : outcome ≡ done (held_in layout live work)
+  pub rows : rows_in layout work ≡ rows_in layout old
 
 abbrev with_full : Live → ℕ → Bool → Live
 with_full live full ended = record { count = live.count; full = full; top = live.top; ended = ended }
@@ -38,7 +43,7 @@ module _ (layout : Layout) (live : Live) (old : List ℕ) (arranged : Arranged l
   front_words = take-take live.full layout.rows old (omega (arith, arranged, few))
 
   module _ (at : ℕ) (here : at < live.full) where
-    module _ (decided : Fit) (flags : List Bool) (total : ℕ) (new : List ℕ)
+    module _ (decided : Option Fit) (flags : List Bool) (total : ℕ) (new : List ℕ)
         (f : Fronted (spliced front at (end_within front at live.full) live.full (rewritten_words decided front at live.full flags)) layout.next total new) where
       made : spliced front at (end_within front at live.full) live.full (rewritten_words decided front at live.full flags) ≡ made_words (held_in layout live old) at decided flags
       made =
@@ -49,7 +54,7 @@ module _ (layout : Layout) (live : Live) (old : List ℕ) (arranged : Arranged l
       rewritten_over h = sized_over (held_in layout live old) at decided flags (let e = f.sized ∙ ap length made in omega arith)
 
       pub rewritten_moved : length new ≡ length front → total ≤ 4096
-          → Stepped (sized_in (held_in layout live old) at decided flags) layout old (with_full live total false) (new ++ drop layout.rows old)
+          → Moved (sized_in (held_in layout live old) at decided flags) layout old (with_full live total false) (new ++ drop layout.rows old)
       rewritten_moved same h =
           let room : layout.rows ≤ length old = omega (arith, arranged) in
           let e = f.sized ∙ ap length made in
@@ -58,31 +63,8 @@ module _ (layout : Layout) (live : Live) (old : List ℕ) (arranged : Arranged l
           let n : live_names layout live (new ++ drop layout.rows old) ≡ live_names layout live old = ap (take live.count) (behind_front old new layout.rows room same layout.names arranged.names) in
           record {
             is = sized-within (held_in layout live old) at decided flags (omega arith) ∙ ap₂ (λ (w n : List ℕ). done (held w n live.top false)) (sym w) (sym n);
-            few = record { full = h; count = few.count };
             rows = slice_behind old new layout.rows room same layout.rows layout.names (omega arith) arranged.names;
           }
-
--- UNSAT
-module _ (layout : Layout) (live : Live) (old : List ℕ) (arranged : Arranged layout (length old)) where
-  pub falsified_moved : (word name : ℕ) → word ≡ truth_word false → Stepped (done (held (truth_word false ∷ []) (name ∷ []) live.top true)) layout old (record { count = 1; full = 1; top = live.top; ended = true }) (set (set old 0 word) layout.names name)
-  falsified_moved word name is =
-      let one = set old 0 word in
-      let long : length one ≡ length old = length-set old 0 word in
-      let w : take 1 (set one layout.names name) ≡ truth_word false ∷ [] =
-      take-set-le 1 one layout.names name (omega (arith, arranged)) ∙ take-suc-set old 0 word (omega (arith, arranged)) ∙ ap (λ (k : ℕ). k ∷ []) is in
-      let n : take 1 (drop layout.names (set one layout.names name)) ≡ name ∷ [] =
-      ap (take 1) (drop-cons (set one layout.names name) layout.names 0 (rw length-set (omega (arith, arranged, long))))
-      ∙ ap (λ (k : ℕ). k ∷ []) (get_or-set_same one layout.names name 0 (omega (arith, arranged, long))) in
-      record {
-        is = ap₂ (λ (w n : List ℕ). done (held w n live.top true)) (sym w) (sym n);
-        few = record { full = omega arith; count = omega arith };
-        rows = ap (drop layout.rows) (take-set-le layout.names one layout.names name (omega arith)) ∙ slice_set;
-      }
-    where
-      slice_set : slice layout.rows layout.names (set old 0 word) ≡ slice layout.rows layout.names old
-      slice_set =
-          ap (drop layout.rows) (take-set-lt layout.names old 0 word (omega (arith, arranged)))
-          ∙ drop-set-lt layout.rows (take layout.names old) 0 word (omega (arith, arranged))
 
 -- TRIVIAL and SPLITC
 module _ (layout : Layout) (live : Live) (old : List ℕ) (arranged : Arranged layout (length old)) (few : Few live) (index at : ℕ)
@@ -94,17 +76,11 @@ module _ (layout : Layout) (live : Live) (old : List ℕ) (arranged : Arranged l
   room : layout.rows ≤ length old
   room = omega (arith, arranged)
 
-  pub mid_long : length mid ≡ length old
+  mid_long : length mid ≡ length old
   mid_long = length_front old new layout.rows same
 
   mid_names : drop layout.names mid ≡ drop layout.names old
   mid_names = behind_front old new layout.rows room same layout.names arranged.names
-
-  pub names_roomy : Roomy (take (length mid - layout.names) (drop layout.names mid)) index live.count layout.spare
-  names_roomy =
-      let e = ap length (part_end mid layout.names) in
-      let l = length-drop layout.names mid in
-      record { here = known; apart = omega (arith, arranged, few); room = omega (arith, arranged, mid_long); long = omega (arith, arranged, mid_long) }
 
   module _ (full : ℕ) (f : Fronted (spliced (take layout.rows old) at (at + 1) live.full []) layout.next full new) (less : full < live.full)
       (numbers list : List ℕ) (count top : ℕ)
@@ -133,12 +109,11 @@ module _ (layout : Layout) (live : Live) (old : List ℕ) (arranged : Arranged l
         ∙ spliced_front (take (length mid - layout.names) (drop layout.names mid)) live.count (omega (arith, arranged, mid_long, few)) index (index + 1) numbers (omega arith)
         ∙ ap (λ (s : List ℕ). exchanged (take live.count s) index (index + 1) numbers) (part_end mid layout.names ∙ mid_names)
 
-    pub opened_moved : Stepped (opened_in (held_in layout live old) (index, at) numbers top) layout old (record { count = count; full = full; top = top; ended = false }) work
+    pub opened_moved : Moved (opened_in (held_in layout live old) (index, at) numbers top) layout old (record { count = count; full = full; top = top; ended = false }) work
     unfolding opened_in
     opened_moved =
         record {
           is = ap₂ (λ (w n : List ℕ). done (held w n top false)) (sym full-words) (sym count-names);
-          few = record { full = omega (arith, few); count = omega (arith, arranged) };
           rows =
               ap (λ (s : List ℕ). slice layout.rows layout.names s) put
               ∙ slice_before mid list layout.names (omega (arith, arranged, mid_long)) layout.rows layout.names (omega arith)

@@ -3,6 +3,7 @@
 use Prim.Native.Nat.{ℕ, ◌+◌, ◌-◌, ◌≤◌, ◌<◌}
 use native.Mathlib.Omega.{arith}
 use mathlib.Core.Path.{◌≡◌, sym, ap, ap₂, ◌∙◌}
+use Rattle.std.specs.Prelude.{Option}
 use mathlib.Core.List.{List, ◌++◌, append-nil}
 use borrow.Rule.Slice.PartMut.{put_mid, Post-is}
 use mathlib.Core.Bool.{Bool}
@@ -74,14 +75,14 @@ module _ (work : List ℕ) (full : ℕ) (room : full ≤ length work) where
   end-inside : (at : ℕ) → at ≤ full → end_within work at full ≤ full
   end-inside at h = let k = skip-within (take full work) at 1 (omega (arith, words-length)) in omega (arith, words-length)
 
-  rewritten_front : (decided : Fit) (at : ℕ) (flags : List Bool) → at < full
+  rewritten_front : (decided : Option Fit) (at : ℕ) (flags : List Bool) → at < full
       → rewritten_words decided work at full flags ≡ rewritten_words decided (take full work) at (length (take full work)) flags
   unfolding rewritten_words
   rewritten_front decided at flags h =
       ap₂ (λ (w : ℕ) (s : List ℕ). fit_words decided w s flags) (sym (get_or-take full work at 0 h))
       (slice_front (at + 1) (end_within work at full) (end-inside at (omega arith)) ∙ ap (λ (e : ℕ). slice (at + 1) e (take full work)) (end_front at))
 
-  pub made_front : (decided : Fit) (at : ℕ) (flags : List Bool) → at < full
+  pub made_front : (decided : Option Fit) (at : ℕ) (flags : List Bool) → at < full
       → spliced work at (end_within work at full) full (rewritten_words decided work at full flags)
       ≡ exchanged (take full work) at (end_within (take full work) at (length (take full work))) (rewritten_words decided (take full work) at (length (take full work)) flags)
   made_front decided at flags h =

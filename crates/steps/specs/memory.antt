@@ -1,2 +1,5 @@
 pub mod Held
 pub mod Steps
+pub mod Fault
+pub mod Memory
+pub mod Decisions

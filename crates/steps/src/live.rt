@@ -17,10 +17,3 @@ pub struct Layout {
     pub names: usize,
     pub spare: usize,
 }
-
-// What a rule line comes to: the live formulas after it, or the number that it is refused with.
-#[derive(Clone, Copy)]
-pub enum Step {
-    Done(Live),
-    Refused(u32),
-}

@@ -1,165 +1,110 @@
 // A rule at a path: 11, 12, 13, 14, 15, or the theory with what the rule makes of the formula there.
-ghost use Rattle.std.specs.Prelude.{◌≡◌, ◌≤◌, ◌<◌, length, take, drop};
-ghost use Rattle.text.specs.memory.Sizes.{ShortText, InWork, FewElements, FewNumbers};
-ghost use Rattle.derivation.specs.memory.RuleLines.{position_at};
-ghost use Rattle.formula.specs.declared.decide.Fit.TheVariants.{Quantifier};
-ghost use Rattle.steps.specs.memory.Held.{misfit, made_in, rewritten_in, sized_in};
-ghost use Rattle.steps.specs.memory.Steps.{rows_in, held_in, Arranged, Few, Flagged, Decides, ToldStep};
+ghost use Rattle.std.specs.Prelude.{◌≡◌, ◌≤◌, ◌<◌, length, drop, Some, IfOk, IfErr};
+ghost use Rattle.text.specs.memory.Sizes.{FewElements};
+ghost use Rattle.steps.specs.memory.Held.{rewritten_in, sized_in};
+ghost use Rattle.steps.specs.memory.Memory.{rows_of, held_of, position_of, Kept, ToldStep};
+ghost use Rattle.steps.specs.memory.Decisions.{ToldFlags, ToldDecision};
 
+use crate::fault::Fault;
 use crate::front::front_rewritten;
-use crate::live::{Layout, Live, Step};
-use crate::target::{Target, path_target};
+use crate::live::Live;
+use crate::memory::Memory;
+use crate::position::TextPosition;
 use derivation::rule_line::Rule;
 use formula::decide::{Fit, rule_fit};
 use guards::admit::{admitted, guard_closed};
+use guards::guard::Guards;
+use table::structure::Structure;
 use table::table::Table;
 use text::size::{DOMAIN_SIZE, LEVEL_COUNT, THEORY_SIZE};
 
-// What is decided of a formula: the number that the rule is refused with, 0 where it fits; and the elements that count for IQ.
+// What is decided of a formula, and the elements that count for IQ.
 #[derive(Clone, Copy)]
 struct Decision {
-    number: u32,
     fit: Fit,
     flags: [bool; DOMAIN_SIZE],
 }
 
-// The number that a decision is refused with; 0 where the rule fits.
-fn misfit_of(fit: Fit, words: &[u32], at: usize) -> u32
-    requires { InWork words.now × (fit ≡ Quantifier → at < length words.now) }
-    ensures { result ≡ misfit fit (drop at words.now) }
+// The elements that the guard admits for IQ, if no other variable is free in it; none for other rules.
+fn flags_for(fit: Fit, guards: &Guards, at: usize) -> Result<[bool; DOMAIN_SIZE], Fault>
+    requires { at < length guards.now.work.now }
+    ensures { ToldFlags guards.now.structure.now.table.now guards.now.structure.now.rows.now (drop at guards.now.work.now) fit result }
 {
     match fit {
-        Fit::Value(_) => 0,
-        Fit::Junction { every: _ } => 0,
-        Fit::Quantifier => {
-            if guard_closed(words, at, LEVEL_COUNT) {
-                return 0;
-            }
-            14
+        Fit::Quantifier if guard_closed(guards.work, at, LEVEL_COUNT) => {
+            Ok(admitted(guards, at, LEVEL_COUNT))
         }
-        Fit::Misfit => 13,
+        Fit::Quantifier => Err(Fault::Guard),
+        _ => Ok([false; DOMAIN_SIZE]),
     }
 }
 
-// The elements that count for IQ, if nothing is refused; none for other rules.
-fn flags_for(
-    number: u32,
-    fit: Fit,
-    words: &[u32],
-    at: usize,
-    table: Table,
-    rows: &[u32],
-) -> [bool; DOMAIN_SIZE]
-    requires { (fit ≡ Quantifier → at < length words.now) × InWork words.now × FewElements table.domain }
-    ensures { number ≡ 0 → Flagged table rows.now (drop at words.now) fit result }
-{
-    if number != 0 {
-        return [false; DOMAIN_SIZE];
+impl Memory<'_> {
+    // What is decided of the formula at a place, before anything is written.
+    fn decision_at(&self, table: &Table, rule: Rule, at: usize) -> Result<Decision, Fault>
+        requires { FewElements table.now.domain × (at ≤ self.now.live.full) }
+        ensures decided { ToldDecision table.now (rows_of self.now) rule (held_of self.now) at result }
+        ensures within { IfOk result (λ d. at < self.now.live.full) }
+    {
+        let full = self.live.full;
+        let rows = self.layout.rows;
+        let names = self.layout.names;
+        let structure = Structure {
+            table,
+            rows: &self.work[rows..names],
+        };
+        let guards = Guards {
+            work: &self.work[..full],
+            structure: &structure,
+        };
+        let fit = rule_fit(rule, &guards, at).ok_or(Fault::Rule)?;
+        let flags = flags_for(fit, &guards, at)?;
+        Ok(Decision { fit, flags })
     }
-    match fit {
-        Fit::Value(_) => [false; DOMAIN_SIZE],
-        Fit::Junction { every: _ } => [false; DOMAIN_SIZE],
-        Fit::Quantifier => admitted(words, at, LEVEL_COUNT, table, rows),
-        Fit::Misfit => [false; DOMAIN_SIZE],
-    }
-}
 
-// The theory with what was decided, if it is not too large.
-fn replaced(
-    work: &mut [u32],
-    layout: Layout,
-    live: Live,
-    at: usize,
-    fit: Fit,
-    flags: [bool; DOMAIN_SIZE],
-    domain: u32,
-) -> Step
-    requires { Arranged layout (length work.old) × Few live × (at < live.full) × FewElements domain }
-    ensures { ToldStep (sized_in (held_in layout live work.old) at fit (take domain flags)) layout work.old result work.new }
-{
-    let rows = layout.rows;
-    let total = front_rewritten(
-        &mut work[..rows],
-        at,
-        live.full,
-        layout.next,
-        fit,
-        flags,
-        domain,
-    );
-    if total > THEORY_SIZE {
-        return Step::Refused(15);
-    }
-    Step::Done(Live {
-        count: live.count,
-        full: total,
-        top: live.top,
-        ended: false,
-    })
-}
-
-// What is decided of the formula at a place, before anything is written.
-fn decision_at(
-    work: &[u32],
-    layout: Layout,
-    live: Live,
-    table: Table,
-    rule: Rule,
-    at: usize,
-) -> Decision
-    requires { Arranged layout (length work.now) × Few live × FewElements table.domain × (at ≤ live.full) }
-    ensures { Decides table (rows_in layout work.now) rule (take live.full work.now) at result }
-{
-    let full = live.full;
-    let rows = layout.rows;
-    let names = layout.names;
-    let fit = rule_fit(rule, &work[..full], at, table, &work[rows..names]);
-    let number = misfit_of(fit, &work[..full], at);
-    let flags = flags_for(number, fit, &work[..full], at, table, &work[rows..names]);
-    Decision { number, fit, flags }
-}
-
-fn rewritten_at(
-    work: &mut [u32],
-    layout: Layout,
-    live: Live,
-    table: Table,
-    rule: Rule,
-    at: usize,
-) -> Step
-    requires { Arranged layout (length work.old) × Few live × (at ≤ live.full) × FewElements table.domain }
-    ensures { ToldStep (made_in table (rows_in layout work.old) rule (held_in layout live work.old) at) layout work.old result work.new }
-{
-    let decision = decision_at(work, layout, live, table, rule, at);
-    if decision.number != 0 {
-        return Step::Refused(decision.number);
-    }
-    let fit = decision.fit;
-    let flags = decision.flags;
-    replaced(work, layout, live, at, fit, flags, table.domain)
-}
-
-pub fn rewritten(
-    text: &[u8],
-    work: &mut [u32],
-    layout: Layout,
-    live: Live,
-    table: Table,
-    rule: Rule,
-    name: u32,
-    path: usize,
-    steps: usize,
-) -> Step
-    requires { Arranged layout (length work.old) × Few live × FewElements table.domain × (path ≤ length text.now) × ShortText text.now × FewNumbers steps }
-    ensures { ToldStep (rewritten_in table (rows_in layout work.old) (held_in layout live work.old) rule (position_at text.now name path steps)) layout work.old result work.new }
-{
-    match path_target(text, work, layout.names, live, name, path, steps) {
-        Target::At { index: _, at } => {
-            if live.ended {
-                return Step::Refused(13);
-            }
-            rewritten_at(work, layout, live, table, rule, at)
+    // Does to the theory what was decided, if it does not become too large.
+    fn replace(&mut self, at: usize, fit: Fit, flags: &[bool]) -> Result<(), Fault>
+        requires { (at < self.old.live.full) × FewElements (length flags.now) }
+        ensures told { ToldStep (sized_in (held_of self.old) at (Some fit) flags.now) self.old result self.new }
+        ensures kept { Kept self.old self.new }
+        ensures same { IfErr result (λ f. self.new.live ≡ self.old.live) }
+    {
+        let live = self.live;
+        let rows = self.layout.rows;
+        let next = self.layout.next;
+        let total = front_rewritten(
+            &mut self.work[..rows],
+            at,
+            live.full,
+            next,
+            Some(fit),
+            flags,
+        );
+        if total > THEORY_SIZE {
+            return Err(Fault::Size);
         }
-        Target::Refused(number) => Step::Refused(number),
+        self.live = Live {
+            full: total,
+            ended: false,
+            ..live
+        };
+        Ok(())
+    }
+
+    // SNAND, SNOR, STN, EPRED, EPROP and IQ
+    #[tactic(auto, unfolding(crate::specs::memory::Held::rewritten_in))]
+    pub fn rewrite(&mut self, table: &Table, rule: Rule, at: &TextPosition) -> Result<(), Fault>
+        requires { FewElements table.now.domain }
+        ensures told { ToldStep (rewritten_in table.now (rows_of self.old) (held_of self.old) rule (position_of at.now)) self.old result self.new }
+        ensures kept { Kept self.old self.new }
+        ensures same { IfErr result (λ f. self.new.live ≡ self.old.live) }
+    {
+        let target = self.path_target(at)?;
+        if self.live.ended {
+            return Err(Fault::Rule);
+        }
+        let decision = self.decision_at(table, rule, target.at)?;
+        let domain = table.domain as usize;
+        self.replace(target.at, decision.fit, &decision.flags[..domain])
     }
 }

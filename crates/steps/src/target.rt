@@ -1,66 +1,47 @@
 // The formula that a rule line names, and the place of its path: 11 and 12, and 13 for a rule that takes no path.
-ghost use Rattle.std.specs.Prelude.{◌+◌, ◌≤◌, length, take, drop};
-ghost use Rattle.text.specs.memory.Sizes.{ShortText, InWork, FewNumbers};
-ghost use Rattle.derivation.specs.memory.RuleLines.{position_at};
-ghost use Rattle.steps.specs.memory.Held.{held, target_in, whole_in};
-ghost use Rattle.steps.specs.memory.Steps.{Few, ToldTarget};
+ghost use Rattle.std.specs.Prelude.{◌≤◌, ◌<◌, length, IfOk};
+ghost use Rattle.steps.specs.memory.Held.{target_in, whole_in};
+ghost use Rattle.steps.specs.memory.Memory.{held_of, position_of, ToldTarget};
 
-use crate::live::Live;
+use crate::fault::Fault;
+use crate::memory::Memory;
+use crate::position::TextPosition;
 use names::names::index_of;
-use words::walk::{Place, past, walk};
+use words::walk::{past, walk};
 
+// The index of the formula that a rule line names, and the place of its path.
 #[derive(Clone, Copy)]
-pub enum Target {
-    At { index: usize, at: usize },
-    Refused(u32),
+pub struct Target {
+    pub index: usize,
+    pub at: usize,
 }
 
-pub fn path_target(
-    text: &[u8],
-    work: &[u32],
-    names: usize,
-    live: Live,
-    name: u32,
-    path: usize,
-    steps: usize,
-) -> Target
-    requires { InWork work.now × Few live × (names + live.count ≤ length work.now) × (live.full ≤ names) × (path ≤ length text.now) × ShortText text.now × FewNumbers steps }
-    ensures { ToldTarget (target_in (held (take live.full work.now) (take live.count (drop names work.now)) live.top live.ended) (position_at text.now name path steps)) live result }
-{
-    let index = index_of(work, names, live.count, name);
-    if index == live.count {
-        return Target::Refused(11);
+impl Memory<'_> {
+    #[tactic(auto, unfolding(crate::specs::memory::Held::target_in))]
+    pub(crate) fn path_target(&self, at: &TextPosition) -> Result<Target, Fault>
+        ensures found { ToldTarget (target_in (held_of self.now) (position_of at.now)) result }
+        ensures within { IfOk result (λ t. (t.index < self.now.live.count) × (t.at ≤ self.now.live.full)) }
+    {
+        let full = self.live.full;
+        let names = self.layout.names;
+        let list = &self.work[names..names + self.live.count];
+        let index = index_of(list, at.position.name).ok_or(Fault::Name)?;
+        let words = &self.work[..full];
+        let start = past(words, 0, index);
+        let place = walk(words, start, at.text, at.position.path).ok_or(Fault::Path)?;
+        Ok(Target { index, at: place })
     }
-    let full = live.full;
-    let start = past(&work[..full], 0, index);
-    match walk(&work[..full], start, text, path, steps) {
-        Place::At(at) => Target::At { index, at },
-        Place::Nowhere => Target::Refused(12),
-    }
-}
 
-pub fn whole_target(
-    text: &[u8],
-    work: &[u32],
-    names: usize,
-    live: Live,
-    name: u32,
-    path: usize,
-    steps: usize,
-) -> Target
-    requires { InWork work.now × Few live × (names + live.count ≤ length work.now) × (live.full ≤ names) × (path ≤ length text.now) × ShortText text.now × FewNumbers steps }
-    ensures { ToldTarget (whole_in (held (take live.full work.now) (take live.count (drop names work.now)) live.top live.ended) (position_at text.now name path steps)) live result }
-{
-    match path_target(text, work, names, live, name, path, steps) {
-        Target::At { index, at } => {
-            if steps > 0 {
-                return Target::Refused(13);
-            }
-            if live.ended {
-                return Target::Refused(13);
-            }
-            Target::At { index, at }
+    // The target of a rule that takes no path.
+    #[tactic(auto, unfolding(crate::specs::memory::Held::whole_in), using(crate::proofs::Targets::steps_tested))]
+    pub(crate) fn whole_target(&self, at: &TextPosition) -> Result<Target, Fault>
+        ensures found { ToldTarget (whole_in (held_of self.now) (position_of at.now)) result }
+        ensures within { IfOk result (λ t. (t.index < self.now.live.count) × (t.at ≤ self.now.live.full)) }
+    {
+        let target = self.path_target(at)?;
+        if at.position.path.many > 0 || self.live.ended {
+            return Err(Fault::Rule);
         }
-        Target::Refused(number) => Target::Refused(number),
+        Ok(target)
     }
 }

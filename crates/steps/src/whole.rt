@@ -1,239 +1,154 @@
 // The rules that take no path: TRIVIAL, SPLITC and UNSAT.
-ghost use Rattle.std.specs.Prelude.{◌≡◌, [], ◌∷◌, true, false, ◌+◌, ◌≤◌, ◌<◌, length, get_or, take, drop};
+ghost use Rattle.std.specs.Prelude.{◌≡◌, [], ◌∷◌, true, false, ◌+◌, ◌≤◌, ◌<◌, length, get_or, IfOk, IfErr};
 ghost use Rattle.grammar.specs.Outcome.{done};
-ghost use Rattle.text.specs.memory.Numbers.{numbers_at};
-ghost use Rattle.text.specs.memory.Sizes.{ShortText, InWork, FewNumbers, NearNumbers};
-ghost use Rattle.derivation.specs.memory.RuleLines.{position_at};
+ghost use Rattle.derivation.specs.memory.RuleLines.{numbers_in};
 ghost use Rattle.words.specs.memory.Words.{truth_word};
 ghost use Rattle.words.specs.memory.Kinds.{kind_of};
-ghost use Rattle.steps.specs.memory.Held.{held, opened_in, is_value, value_in, removed_in, is_split, is_conjunction, split_in, refuted_in};
-ghost use Rattle.steps.specs.memory.Steps.{held_in, Arranged, Few, Stepped, ToldTarget, ToldStep};
+ghost use Rattle.steps.specs.memory.Held.{held, opened_in, is_value, value_in, removed_in, is_split, split_in, refuted_in};
+ghost use Rattle.steps.specs.memory.Memory.{held_of, position_of, Kept, Stepped, ToldTarget, ToldStep};
 
+use crate::fault::Fault;
 use crate::front::front_without;
-use crate::live::{Layout, Live, Step};
-use crate::target::{Target, whole_target};
-use names::names::{Climb, climbs, with_names};
+use crate::live::Live;
+use crate::memory::Memory;
+use crate::position::TextPosition;
+use crate::target::Target;
+use names::names::{climbs, with_names};
+use text::number::Numbers;
 use text::size::FORMULA_COUNT_WITH_SPLIT;
 use words::head::truth_word;
-use words::word::{Kind, Sign, kind_of, peek};
-
-// The word at a place of the theory; 0 behind it.
-fn word_at(work: &[u32], full: usize, at: usize) -> u32
-    requires { full ≤ length work.now }
-    ensures { result ≡ get_or (take full work.now) at 0 }
-{
-    peek(&work[..full], at)
-}
-
-// The theory without the first word of the formula at `at`, and names of the text for its own.
-fn opened(
-    text: &[u8],
-    work: &mut [u32],
-    layout: Layout,
-    live: Live,
-    index: usize,
-    at: usize,
-    names: usize,
-    many: usize,
-    top: u32,
-) -> Live
-    requires { Arranged layout (length work.old) × Few live × (index < live.count) × (at < live.full) × (live.count + many ≤ 1025) × ShortText text.now × NearNumbers names many }
-    ensures { Stepped (opened_in (held_in layout live work.old) (index, at) (numbers_at text.now names many) top) layout work.old result work.new }
-{
-    let rows = layout.rows;
-    let full = front_without(&mut work[..rows], at, live.full, layout.next);
-    let start = layout.names;
-    let count = with_names(
-        &mut work[start..],
-        index,
-        live.count,
-        layout.spare,
-        text,
-        names,
-        many,
-    );
-    Live {
-        count,
-        full,
-        top,
-        ended: false,
-    }
-}
+use words::word::{Kind, Sign, peek};
 
 // Whether a word is that of a truth value.
 fn is_truth(word: u32, value: bool) -> bool
     ensures { result ≡ is_value value (kind_of word) }
 {
-    match kind_of(word) {
-        Kind::Truth(b) => {
-            if value {
-                return b;
-            }
-            !b
-        }
-        Kind::Atom {
-            predicate: _,
-            terms: _,
-        } => false,
-        Kind::Equality => false,
-        Kind::Connective { sign: _, parts: _ } => false,
-        Kind::Quantifier {
-            every: _,
-            variable: _,
-        } => false,
-        Kind::Term => false,
-    }
+    matches!(Kind::from(word), Kind::Truth(b) if b == value)
 }
 
-// The whole formula of a name, if it is that truth value.
-fn value_target(
-    text: &[u8],
-    work: &[u32],
-    names: usize,
-    live: Live,
-    name: u32,
-    path: usize,
-    steps: usize,
-    value: bool,
-) -> Target
-    requires { InWork work.now × Few live × (names + live.count ≤ length work.now) × (live.full ≤ names) × (path ≤ length text.now) × ShortText text.now × FewNumbers steps }
-    ensures { ToldTarget (value_in value (held (take live.full work.now) (take live.count (drop names work.now)) live.top live.ended) (position_at text.now name path steps)) live result }
-{
-    match whole_target(text, work, names, live, name, path, steps) {
-        Target::At { index, at } => {
-            if !is_truth(word_at(work, live.full, at), value) {
-                return Target::Refused(13);
-            }
-            Target::At { index, at }
-        }
-        Target::Refused(number) => Target::Refused(number),
-    }
-}
-
-// TRIVIAL
-pub fn removed(
-    text: &[u8],
-    work: &mut [u32],
-    layout: Layout,
-    live: Live,
-    name: u32,
-    path: usize,
-    steps: usize,
-) -> Step
-    requires { Arranged layout (length work.old) × Few live × (path ≤ length text.now) × ShortText text.now × FewNumbers steps }
-    ensures { ToldStep (removed_in (held_in layout live work.old) (position_at text.now name path steps)) layout work.old result work.new }
-{
-    match value_target(text, work, layout.names, live, name, path, steps, true) {
-        Target::At { index, at } => {
-            Step::Done(opened(text, work, layout, live, index, at, 0, 0, live.top))
-        }
-        Target::Refused(number) => Step::Refused(number),
-    }
-}
-
-// Whether a word is that of an `&` of so many parts, one or more.
+// Whether a word is that of an `&` of so many parts, one or more. The count comes alone: where the names stand does not matter here.
 fn is_split(word: u32, many: usize) -> bool
     ensures { result ≡ is_split (kind_of word) many }
 {
-    match kind_of(word) {
-        Kind::Truth(_) => false,
-        Kind::Atom {
-            predicate: _,
-            terms: _,
-        } => false,
-        Kind::Equality => false,
-        Kind::Connective { sign, parts } => is_conjunction(sign, parts, many),
-        Kind::Quantifier {
-            every: _,
-            variable: _,
-        } => false,
-        Kind::Term => false,
+    match Kind::from(word) {
+        Kind::Connective {
+            sign: Sign::Junction { every: true },
+            parts,
+        } => many != 0 && parts as usize == many,
+        _ => false,
     }
 }
 
-fn is_conjunction(sign: Sign, parts: u32, many: usize) -> bool
-    ensures { result ≡ is_conjunction sign parts many }
-{
-    match sign {
-        Sign::Negation => false,
-        Sign::Implies => false,
-        Sign::ImpliedBy => false,
-        Sign::Equivalent => false,
-        Sign::Junction { every } => {
-            if !every {
-                return false;
-            }
-            if many == 0 {
-                return false;
-            }
-            parts as usize == many
+impl Memory<'_> {
+    // The word at a place of the theory; 0 behind it.
+    fn word_at(&self, at: usize) -> u32
+        ensures { result ≡ get_or (held_of self.now).words at 0 }
+    {
+        peek(&self.work[..self.live.full], at)
+    }
+
+    // The whole formula of a name, if it is that truth value.
+    #[tactic(auto, unfolding(crate::specs::memory::Held::value_in))]
+    fn value_target(&self, at: &TextPosition, value: bool) -> Result<Target, Fault>
+        ensures found { ToldTarget (value_in value (held_of self.now) (position_of at.now)) result }
+        ensures within { IfOk result (λ t. (t.index < self.now.live.count) × (t.at ≤ self.now.live.full)) }
+    {
+        let target = self.whole_target(at)?;
+        if !is_truth(self.word_at(target.at), value) {
+            return Err(Fault::Rule);
         }
+        Ok(target)
     }
-}
 
-// SPLITC
-pub fn split(
-    text: &[u8],
-    work: &mut [u32],
-    layout: Layout,
-    live: Live,
-    name: u32,
-    path: usize,
-    steps: usize,
-    names: usize,
-    many: usize,
-) -> Step
-    requires { Arranged layout (length work.old) × Few live × (path ≤ length text.now) × ShortText text.now × FewNumbers steps × (names + many ≤ 65536) }
-    ensures { ToldStep (split_in (held_in layout live work.old) (position_at text.now name path steps) (numbers_at text.now names many)) layout work.old result work.new }
-{
-    match climbs(text, names, many, live.top) {
-        Climb::To(top) => match whole_target(text, work, layout.names, live, name, path, steps) {
-            Target::At { index, at } => {
-                if !is_split(word_at(work, live.full, at), many) {
-                    return Step::Refused(13);
-                }
-                if live.count + many > FORMULA_COUNT_WITH_SPLIT {
-                    return Step::Refused(15);
-                }
-                Step::Done(opened(text, work, layout, live, index, at, names, many, top))
-            }
-            Target::Refused(number) => Step::Refused(number),
-        },
-        Climb::Stuck => Step::Refused(11),
+    // Takes the first word of a formula away, and gives the names of a text for its own.
+    fn open(&mut self, text: &[u8], target: Target, names: Numbers, top: u32)
+        requires { (target.index < self.old.live.count) × (target.at < self.old.live.full) × (self.old.live.count + names.many ≤ 1025) }
+        ensures told { Stepped (opened_in (held_of self.old) (target.index, target.at) (numbers_in text.now names) top) self.old self.new }
+        ensures kept { Kept self.old self.new }
+    {
+        let live = self.live;
+        let rows = self.layout.rows;
+        let start = self.layout.names;
+        let full = front_without(
+            &mut self.work[..rows],
+            target.at,
+            live.full,
+            self.layout.next,
+        );
+        let count = with_names(
+            &mut self.work[start..],
+            target.index,
+            live.count,
+            self.layout.spare,
+            text,
+            names,
+        );
+        self.live = Live {
+            count,
+            full,
+            top,
+            ended: false,
+        };
     }
-}
 
-// Of the theory one formula is left, `false`.
-fn falsified(work: &mut [u32], layout: Layout, live: Live, name: u32) -> Live
-    requires { Arranged layout (length work.old) }
-    ensures { Stepped (done (held (truth_word false ∷ []) (name ∷ []) live.top true)) layout work.old result work.new }
-{
-    let start = layout.names;
-    work[0] = truth_word(false);
-    work[start] = name;
-    Live {
-        count: 1,
-        full: 1,
-        top: live.top,
-        ended: true,
+    // Leaves of the theory one formula, `false`.
+    fn falsify(&mut self, name: u32)
+        ensures told { Stepped (done (held (truth_word false ∷ []) (name ∷ []) self.old.live.top true)) self.old self.new }
+        ensures kept { Kept self.old self.new }
+    {
+        let start = self.layout.names;
+        self.work[0] = truth_word(false);
+        self.work[start] = name;
+        self.live = Live {
+            count: 1,
+            full: 1,
+            top: self.live.top,
+            ended: true,
+        };
     }
-}
 
-// UNSAT
-pub fn refuted(
-    text: &[u8],
-    work: &mut [u32],
-    layout: Layout,
-    live: Live,
-    name: u32,
-    path: usize,
-    steps: usize,
-) -> Step
-    requires { Arranged layout (length work.old) × Few live × (path ≤ length text.now) × ShortText text.now × FewNumbers steps }
-    ensures { ToldStep (refuted_in (held_in layout live work.old) (position_at text.now name path steps)) layout work.old result work.new }
-{
-    match value_target(text, work, layout.names, live, name, path, steps, false) {
-        Target::At { index: _, at: _ } => Step::Done(falsified(work, layout, live, name)),
-        Target::Refused(number) => Step::Refused(number),
+    // TRIVIAL
+    #[tactic(auto, unfolding(crate::specs::memory::Held::removed_in, text::specs::memory::Numbers::numbers_at))]
+    pub fn remove(&mut self, at: &TextPosition) -> Result<(), Fault>
+        ensures told { ToldStep (removed_in (held_of self.old) (position_of at.now)) self.old result self.new }
+        ensures kept { Kept self.old self.new }
+        ensures same { IfErr result (λ f. self.new.live ≡ self.old.live) }
+    {
+        let target = self.value_target(at, true)?;
+        let top = self.live.top;
+        self.open(at.text, target, Numbers { at: 0, many: 0 }, top);
+        Ok(())
+    }
+
+    // SPLITC
+    #[tactic(auto, unfolding(crate::specs::memory::Held::split_in))]
+    pub fn split(&mut self, at: &TextPosition, names: Numbers) -> Result<(), Fault>
+        requires { names.at + names.many ≤ 65536 }
+        ensures told { ToldStep (split_in (held_of self.old) (position_of at.now) (numbers_in at.now.text.now names)) self.old result self.new }
+        ensures kept { Kept self.old self.new }
+        ensures same { IfErr result (λ f. self.new.live ≡ self.old.live) }
+    {
+        let top = climbs(at.text, names, self.live.top).ok_or(Fault::Name)?;
+        let target = self.whole_target(at)?;
+        if !is_split(self.word_at(target.at), names.many) {
+            return Err(Fault::Rule);
+        }
+        if self.live.count + names.many > FORMULA_COUNT_WITH_SPLIT {
+            return Err(Fault::Size);
+        }
+        self.open(at.text, target, names, top);
+        Ok(())
+    }
+
+    // UNSAT
+    #[tactic(auto, unfolding(crate::specs::memory::Held::refuted_in))]
+    pub fn refute(&mut self, at: &TextPosition) -> Result<(), Fault>
+        ensures told { ToldStep (refuted_in (held_of self.old) (position_of at.now)) self.old result self.new }
+        ensures kept { Kept self.old self.new }
+        ensures same { IfErr result (λ f. self.new.live ≡ self.old.live) }
+    {
+        self.value_target(at, false)?;
+        self.falsify(at.position.name);
+        Ok(())
     }
 }

@@ -3,51 +3,46 @@
 use Prim.Native.Nat.{ℕ, suc, zero, ◌+◌, ◌-◌, ◌≤◌, ◌<◌}
 use native.Mathlib.Numerals.{add-one, sub-one}
 use native.Mathlib.Omega.{arith}
+use native.Mathlib.Decide.{dec_lt}
+use Rattle.std.specs.Prelude.{Some, None}
+use Rattle.std.specs.List.{list_any}
+use Rattle.std.specs.Option.{unwrap_or}
 use native.Mathlib.Nat.{zero-add, add-zero, add-suc, suc-add}
 use mathlib.Core.Path.{◌≡◌, refl, sym, ap, ap₂, ◌∙◌}
 use mathlib.Core.List.{List, [], ◌∷◌, ◌++◌, map}
 use mathlib.Core.Bool.{Bool, true, false, cond, ◌&&◌, ◌||◌, or-false, or_assoc}
 use lib.Dec.{eqb, leb, ltb, leb-suc-suc}
-use lib.ListN.{length, get_or, take, drop, drop_of_length-le}
-use lib.Seq.{take-nil, drop-cons}
-use borrow.Author.Tests.{eq-eqb, ne_eqb, lt-ltb, le-ltb, lt-leb, le-leb, ltb-true, ltb-false}
+use lib.ListN.{length}
+use borrow.Author.Tests.{lt-ltb, le-ltb, lt-leb, le-leb, ltb-true, ltb-false}
 use Rattle.grammar.specs.Bytes.{Bytes, same, member}
 use Rattle.grammar.specs.Problem.{Name, Row, Predicate, Problem, input_predicates, predicates, named, declared, is_input, is_output, rows_of, given}
 use Rattle.grammar.specs.Valid.{Valid, occurrences}
 use Rattle.grammar.proofs.Problem.{is_input-not-is_output}
 use Rattle.table.specs.declared.table.Table.{Table}
-use Rattle.table.specs.memory.Table.{among, position, indexed, table_name, table_names, table_predicate, table_numbers, table_input, problem_in, packed}
+use Rattle.table.specs.memory.Table.{among, position, indexed, entry, found, table_name, table_names, table_predicate, table_numbers, table_input, problem_in, packed}
 use Rattle.table.proofs.Packing.{Digits, among-member}
 
--- A number among those from a place on, as they are passed one by one.
+-- A number among others, by the library's word for it.
+pub any-among : (key : ℕ) (ns : List ℕ) → list_any (λ n. eqb n key) ns ≡ among key ns
+unfolding among
+any-among key [] = refl
+any-among key (n ∷ ns) = ap (◌||◌ (eqb n key)) (any-among key ns)
 
-module _ (key : ℕ) (s : List ℕ) (i n : ℕ) where
-  pub among_none : n ≡ 0 → among key (take n (drop i s)) ≡ false
-  unfolding among
-  among_none e = rw e (empty (drop i s))
+-- The index of the predicate that has a name, by the place of the name among theirs.
+module _ (text : Bytes) (table : Table) (p : Name) where
+  pub found_here : (i : ℕ) → position p (table_names text table) ≡ i → i < table.count → Some i ≡ found text table p
+  found_here i e h = rw (e, lt-ltb i table.count h)
+
+  pub found-none : position p (table_names text table) ≡ table.count → None ≡ found text table p
+  found-none e = rw (e, le-ltb table.count table.count (omega arith))
+
+  -- or their count
+  pub found_or_count : position p (table_names text table) ≤ table.count → unwrap_or (found text table p) table.count ≡ position p (table_names text table)
+  found_or_count h = pick (dec_lt (position p (table_names text table)) table.count)
     where
-      empty : (t : List ℕ) → among key (take 0 t) ≡ false
-      empty [] = refl
-      empty (m ∷ t) = refl
-
-  pub among-beyond : length s ≤ i → among key (take n (drop i s)) ≡ false
-  unfolding among
-  among-beyond h = rw (drop_of_length-le s h, take-nil n)
-
-  module _ (within : i < length s) (more : n ≡ 0 → ⊥) where
-    among_turn : among key (take n (drop i s)) ≡ (eqb (get_or s i 0) key || among key (take (n - 1) (drop (i + 1) s)))
-    unfolding among
-    among_turn = pick n more
-      where
-        pick : (m : ℕ) → (m ≡ 0 → ⊥) → among key (take m (drop i s)) ≡ (eqb (get_or s i 0) key || among key (take (m - 1) (drop (i + 1) s)))
-        pick zero h = absurd (h refl)
-        pick (suc m) h = rw (drop-cons s i 0 within, add-one i, sub-one (suc m))
-
-    pub among-here : get_or s i 0 ≡ key → among key (take n (drop i s)) ≡ true
-    among-here e = rw (among_turn, eq-eqb (get_or s i 0) key e)
-
-    pub among_next : (get_or s i 0 ≡ key → ⊥) → among key (take n (drop i s)) ≡ among key (take (n - 1) (drop (i + 1) s))
-    among_next e = rw (among_turn, ne_eqb (get_or s i 0) key e)
+      pick : Dec (position p (table_names text table) < table.count) → unwrap_or (found text table p) table.count ≡ position p (table_names text table)
+      pick (yes k) = rw (lt-ltb (position p (table_names text table)) table.count k)
+      pick (no k) = rw (le-ltb (position p (table_names text table)) table.count (omega arith)) (omega (arith, h))
 
 -- A name's place among those that belong to the indices from one on.
 
@@ -157,7 +152,7 @@ module _ (text : Bytes) (table : Table) (p : Name) where
 
   -- a name that is there once has the arity of the first predicate that has it
   declared-indexed : (arity n i : ℕ) → occurrences (indexed (table_predicate text table) i n) p ≤ 1
-      → declared (indexed (table_predicate text table) i n) p arity ≡ (ltb (place i n) n && eqb (get_or table.arity (i + place i n) 0) arity)
+      → declared (indexed (table_predicate text table) i n) p arity ≡ (ltb (place i n) n && eqb (entry table (i + place i n)).arity arity)
   unfolding position indexed
   declared-indexed arity zero i once = refl
   declared-indexed arity (suc n) i once = pick (same p (table_name text table i)) once (declared-indexed arity n (suc i))
@@ -166,7 +161,7 @@ module _ (text : Bytes) (table : Table) (p : Name) where
       others = indexed (table_predicate text table) (suc i) n
 
       has : ℕ → Bool
-      has k = eqb (get_or table.arity k 0) arity
+      has k = eqb (entry table k).arity arity
 
       pick : (b : Bool) → cond b 1 0 + occurrences others p ≤ 1
           → (occurrences others p ≤ 1 → declared others p arity ≡ (ltb (place (suc i) n) n && has (suc i + place (suc i) n)))
@@ -222,7 +217,7 @@ module _ (text : Bytes) (table : Table) (rows : List ℕ) (inside : table.inputs
         ∙ sym (rw split at (position_first p (table_name text table) table.inputs (table.count - table.inputs) 0)))
 
     -- a row's number is among those of an input's rows as the row is one of the input's
-    pub given_in : (row : Row) → index < table.inputs → length row ≡ get_or table.arity index 0 → Digits row
+    pub given_in : (row : Row) → index < table.inputs → length row ≡ (entry table index).arity → Digits row
         → given P p row ≡ among (packed row) (table_numbers table rows index)
     unfolding problem_in
     given_in row h e small =
@@ -243,6 +238,6 @@ module _ (text : Bytes) (table : Table) (rows : List ℕ) (inside : table.inputs
               sym (named-append (input_predicates P) P.outputs p ∙ ap (λ b. b || is_output P p) e) ∙ named_in
               ∙ sym (ap (λ b. b && ltb index table.count) (le-leb table.inputs index (ltb-false index table.inputs (sym is_input_in ∙ e))))
 
-      pub declared_in : (arity : ℕ) → declared (predicates P) p arity ≡ (ltb index table.count && eqb (get_or table.arity index 0) arity)
+      pub declared_in : (arity : ℕ) → declared (predicates P) p arity ≡ (ltb index table.count && eqb (entry table index).arity arity)
       declared_in arity =
           rw predicates_in (rw zero-add at (declared-indexed text table p arity table.count 0 (rw predicates_in at (valid.declares.once p))))

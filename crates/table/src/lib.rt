@@ -1,4 +1,5 @@
 // The problem's table: its predicates and where their rows stand.
 #![tactic(auto)]
 
+pub mod structure;
 pub mod table;

@@ -1,8 +1,8 @@
 pub mod Listing
 pub mod NameTable
+pub mod Bindings
 pub mod Variables
 pub mod Facts
-pub mod Bindings
 pub mod Signature
 pub mod Lists
 pub mod Entries

@@ -1,5 +1,5 @@
 // What is told of a formula, or of formulas, as they are read: all that numbers 7, 8 and 9 ask of it.
-ghost use Rattle.std.specs.Prelude.{◌≡◌, true, false, ◌&&◌, ◌≤◌, max};
+ghost use Rattle.std.specs.Prelude.{◌≡◌, true, ◌≤◌};
 ghost use Rattle.words.specs.memory.Stored.{side_of, connective_of};
 ghost use Rattle.terms.specs.memory.Facts.{simple_facts, beside, with_form, connective_facts, quantified, quantifier_facts};
 
@@ -21,103 +21,87 @@ pub struct Facts {
     pub guarded: u32,
 }
 
-pub fn both(a: bool, b: bool) -> bool
-    ensures { result ≡ (a && b) }
-{
-    if a { b } else { false }
-}
-
-pub fn larger(a: u32, b: u32) -> u32
-    ensures { result ≡ max a b }
-{
-    if a < b { b } else { a }
-}
-
-// Of a truth value, an atom or an equality; or of no formulas.
-pub fn simple_facts(named: bool, inputs: bool) -> Facts
-    ensures { result ≡ simple_facts named inputs }
-{
-    Facts {
-        named,
-        simple: true,
-        disjunctive: true,
-        normal: true,
-        inputs,
-        quantifiers: 0,
-        guarded: 0,
-    }
-}
-
-// Of formulas and others behind them.
-pub fn facts_beside(a: Facts, b: Facts) -> Facts
-    ensures { result ≡ beside a b }
-{
-    Facts {
-        named: both(a.named, b.named),
-        simple: both(a.simple, b.simple),
-        disjunctive: both(a.disjunctive, b.disjunctive),
-        normal: both(a.normal, b.normal),
-        inputs: both(a.inputs, b.inputs),
-        quantifiers: larger(a.quantifiers, b.quantifiers),
-        guarded: larger(a.guarded, b.guarded),
-    }
-}
-
-fn with_form(parts: Facts, disjunctive: bool, normal: bool) -> Facts
-    ensures { result ≡ with_form parts disjunctive normal }
-{
-    Facts {
-        named: parts.named,
-        simple: false,
-        disjunctive,
-        normal,
-        inputs: parts.inputs,
-        quantifiers: parts.quantifiers,
-        guarded: parts.guarded,
-    }
-}
-
-// Of a connective, by what is told of its parts.
-pub fn connective_facts(sign: Sign, parts: Facts) -> Facts
-    ensures { result ≡ connective_facts (connective_of sign) parts }
-{
-    match sign {
-        Sign::Negation => with_form(parts, parts.simple, parts.simple),
-        Sign::Implies => with_form(parts, false, false),
-        Sign::ImpliedBy => with_form(parts, false, false),
-        Sign::Equivalent => with_form(parts, false, false),
-        Sign::Junction { every } => {
-            if every {
-                return with_form(parts, false, parts.normal);
-            }
-            with_form(parts, parts.disjunctive, parts.disjunctive)
+impl Facts {
+    // Of a truth value, an atom or an equality; or of no formulas.
+    pub fn simple(named: bool, inputs: bool) -> Facts
+        ensures { result ≡ simple_facts named inputs }
+    {
+        Facts {
+            named,
+            simple: true,
+            disjunctive: true,
+            normal: true,
+            inputs,
+            quantifiers: 0,
+            guarded: 0,
         }
     }
-}
 
-fn quantified_facts(guard: Facts, body: Facts, disjunctive: bool, normal: bool) -> Facts
-    requires { (guard.quantifiers ≤ 65536) × (body.quantifiers ≤ 65536) }
-    ensures { result ≡ quantified guard body disjunctive normal }
-{
-    Facts {
-        named: both(guard.named, body.named),
-        simple: false,
-        disjunctive,
-        normal,
-        inputs: both(guard.inputs, body.inputs),
-        quantifiers: larger(guard.quantifiers, body.quantifiers) + 1,
-        guarded: larger(guard.quantifiers, body.guarded),
+    // Of formulas and others behind them.
+    pub fn beside(self, others: Facts) -> Facts
+        ensures { result ≡ beside self others }
+    {
+        Facts {
+            named: self.named && others.named,
+            simple: self.simple && others.simple,
+            disjunctive: self.disjunctive && others.disjunctive,
+            normal: self.normal && others.normal,
+            inputs: self.inputs && others.inputs,
+            quantifiers: self.quantifiers.max(others.quantifiers),
+            guarded: self.guarded.max(others.guarded),
+        }
     }
-}
 
-// Of a quantifier, by what is told of its guard and its body.
-pub fn quantifier_facts(every: bool, guard: Facts, body: Facts) -> Facts
-    requires { (guard.quantifiers ≤ 65536) × (body.quantifiers ≤ 65536) }
-    ensures { result ≡ quantifier_facts (side_of every) guard body }
-{
-    if every {
-        return quantified_facts(guard, body, false, both(guard.inputs, body.normal));
+    fn with_form(self, disjunctive: bool, normal: bool) -> Facts
+        ensures { result ≡ with_form self disjunctive normal }
+    {
+        Facts {
+            simple: false,
+            disjunctive,
+            normal,
+            ..self
+        }
     }
-    let form = both(guard.inputs, body.disjunctive);
-    quantified_facts(guard, body, form, form)
+
+    // Of a connective, by what is told of its parts.
+    pub fn of_connective(sign: Sign, parts: Facts) -> Facts
+        ensures { result ≡ connective_facts (connective_of sign) parts }
+    {
+        match sign {
+            Sign::Negation => parts.with_form(parts.simple, parts.simple),
+            Sign::Implies | Sign::ImpliedBy | Sign::Equivalent => parts.with_form(false, false),
+            Sign::Junction { every: true } => parts.with_form(false, parts.normal),
+            Sign::Junction { every: false } => parts.with_form(
+                parts.disjunctive,
+                parts.disjunctive,
+            ),
+        }
+    }
+
+    fn quantified(guard: Facts, body: Facts, disjunctive: bool, normal: bool) -> Facts
+        requires { (guard.quantifiers ≤ 65536) × (body.quantifiers ≤ 65536) }
+        ensures { result ≡ quantified guard body disjunctive normal }
+    {
+        Facts {
+            named: guard.named && body.named,
+            simple: false,
+            disjunctive,
+            normal,
+            inputs: guard.inputs && body.inputs,
+            quantifiers: guard.quantifiers.max(body.quantifiers) + 1,
+            guarded: guard.quantifiers.max(body.guarded),
+        }
+    }
+
+    // Of a quantifier, by what is told of its guard and its body.
+    pub fn of_quantifier(every: bool, guard: Facts, body: Facts) -> Facts
+        requires { (guard.quantifiers ≤ 65536) × (body.quantifiers ≤ 65536) }
+        ensures { result ≡ quantifier_facts (side_of every) guard body }
+    {
+        if every {
+            return Facts::quantified(guard, body, false, guard.inputs && body.normal);
+        }
+        let form = guard.inputs && body.disjunctive;
+        Facts::quantified(guard, body, form, form)
+    }
 }

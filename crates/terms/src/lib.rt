@@ -4,5 +4,6 @@
 pub mod binding;
 pub mod fact;
 pub mod name_table;
+pub mod setting;
 pub mod signature;
 pub mod term;

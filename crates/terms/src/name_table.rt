@@ -1,104 +1,88 @@
-// The variables' table: how many names there are, then the start and the size of each in the theory's text, in the order in which they
-// first come. A theory may have 64 variables; there is room for one more, so that it is told when there are too many.
-ghost use Rattle.std.specs.Prelude.{◌≡◌, ◌≤◌, ◌<◌, min, length, get_or, take, drop, leb};
-ghost use Rattle.grammar.specs.Sizes.{name_size};
-ghost use Rattle.grammar.specs.Bytes.{same};
-ghost use Rattle.table.specs.memory.Table.{position};
-ghost use Rattle.terms.specs.memory.NameTable.{name_in, names_in, with_name, NameListed, list_fits};
+// The variables' table: the places of their names in the theory's text, in the order in which they first come. A theory may have 64 variables; there
+// is room for one more, so that it is told when there are too many.
+use text::name::{Name, equal, part};
+use text::size::{MOST_VARIABLES, NAME_SIZE, VARIABLE_COUNT};
 
-use text::name::{equal, part};
-use text::size::{MOST_VARIABLES, NAME_SIZE};
+// Names that the table has room for.
+const ROOM: usize = VARIABLE_COUNT + 1;
 
-// How many names the table has.
-fn name_count(names: &[u32; 131]) -> u32
-    ensures { result ≡ min (get_or names.now 0 0) 65 }
-{
-    if names[0] < 65 { names[0] } else { 65 }
+#[derive(Drop)]
+pub struct NameTable {
+    pub count: u32,
+    pub names: [Name; ROOM],
 }
 
-fn wide(n: u32) -> usize
-    ensures { result ≡ n }
-{
-    n as usize
-}
+impl NameTable {
+    ghost use Rattle.std.specs.Prelude.{◌≡◌, leb, length, position, take};
+    ghost use Rattle.std.specs.List.{list_all};
+    ghost use Rattle.grammar.specs.Sizes.{name_size};
+    ghost use Rattle.grammar.specs.Bytes.{same};
+    ghost use Rattle.table.specs.memory.Table.{name_at};
+    ghost use Rattle.terms.specs.memory.NameTable.{names_in, HasAdded, NameListed, list_fits};
 
-// Whether a name is the one at an index.
-fn is_name(text: &[u8], names: &[u32; 131], i: u32, name: &[u8]) -> bool
-    requires { i < 65 }
-    ensures { result ≡ same name.now (name_in text.now names.now i) }
-{
-    let at = (2 * i + 1) as usize;
-    equal(name, part(text, wide(names[at]), wide(names[at + 1])))
-}
-
-// The index of a name; how many there are, where it is not in the table.
-fn find_name(text: &[u8], names: &[u32; 131], at: usize, size: usize) -> u32
-    ensures { result ≡ position (take size (drop at text.now)) (names_in text.now names.now) }
-{
-    let name = part(text, at, size);
-    let count = name_count(names);
-    let mut i: u32 = 0;
-    while i < count {
-        if is_name(text, names, i, name) {
-            return i;
+    // No name. A scope begins alike; the two share no more than this, since a scope is copied where a variable is bound, and the table grows in place
+    // and tells indices, so that one type with a const parameter would be no plainer.
+    pub fn new() -> NameTable
+        ensures { result.count ≡ 0 }
+    {
+        NameTable {
+            count: 0,
+            names: [Name { start: 0, size: 0 }; ROOM],
         }
-        i += 1;
     }
-    i
-}
 
-// The table with a name behind the others, at the next index.
-fn with_name(names: [u32; 131], i: u32, at: usize, size: usize) -> [u32; 131]
-    requires { (i < 65) × (at ≤ 65536) × (size ≤ 65536) }
-    ensures { (result ≡ with_name names i at size) × (length names ≡ 131) }
-{
-    let start = (2 * i + 1) as usize;
-    let mut more = names;
-    more[start] = at as u32;
-    more[start + 1] = size as u32;
-    more[0] = i + 1;
-    more
-}
-
-// The index of a name, which is put into the table if it is new and there is room.
-pub fn list_name(text: &[u8], names: &mut [u32; 131], at: usize, size: usize) -> u32
-    requires { (at ≤ 65536) × (size ≤ 65536) }
-    ensures { NameListed text.now (take size (drop at text.now)) names.old names.new result }
-{
-    let i = find_name(text, names, at, size);
-    if i < name_count(names) {
-        return i;
+    // The names' places: as many as are counted and there is room for.
+    fn listed(&self) -> &[Name]
+        ensures { result.now ≡ take self.now.count self.now.names }
+    {
+        part(&self.names, 0, self.count as usize)
     }
-    if i < 65 {
-        *names = with_name(*names, i, at, size);
-        return i;
-    }
-    i
-}
 
-fn is_short(text: &[u8], names: &[u32; 131], i: u32) -> bool
-    requires { i < 65 }
-    ensures { result ≡ leb (length (name_in text.now names.now i)) name_size }
-{
-    let at = (2 * i + 1) as usize;
-    let name = part(text, wide(names[at]), wide(names[at + 1]));
-    name.len() <= NAME_SIZE
-}
-
-// Whether the names are few and short enough for a theory.
-pub fn names_fit(text: &[u8], names: &[u32; 131]) -> bool
-    ensures { result ≡ list_fits (names_in text.now names.now) }
-{
-    let count = name_count(names);
-    if count > MOST_VARIABLES {
-        return false;
+    // The index of a name, if the table has it.
+    fn find(&self, text: &[u8], name: &[u8]) -> Option<usize>
+        ensures { result ≡ position (λ place. same name.now (name_at text.now place)) (take self.now.count self.now.names) }
+    {
+        self.listed()
+            .iter()
+            .position(|listed| equal(name, listed.of(text)))
     }
-    let mut i: u32 = 0;
-    while i < count {
-        if !is_short(text, names, i) {
-            return false;
+
+    // The index behind the others, where a name is put if there is room.
+    fn add(&mut self, name: Name) -> u32
+        ensures { HasAdded name self.old self.new result }
+    {
+        let index = self.count.min(ROOM as u32);
+        if (index as usize) < ROOM {
+            self.names[index as usize] = name;
+            self.count += 1;
         }
-        i += 1;
+        index
     }
-    true
+
+    // The index of a name, which is put into the table if it is new and there is room.
+    pub fn list(&mut self, text: &[u8], name: Name) -> u32
+        ensures { NameListed text.now (name_at text.now name) self.old self.new result }
+    {
+        match self.find(text, name.of(text)) {
+            Some(index) => index as u32,
+            None => self.add(name),
+        }
+    }
+
+    // Whether each of the names is short enough for a theory.
+    #[tactic(auto, unfolding(grammar::specs::Sizes::name_size))]
+    fn are_short(&self, text: &[u8]) -> bool
+        ensures { result ≡ list_all (λ place. leb (length (name_at text.now place)) name_size) (take self.now.count self.now.names) }
+    {
+        self.listed()
+            .iter()
+            .all(|name| name.of(text).len() <= NAME_SIZE)
+    }
+
+    // Whether the names are few and short enough for a theory.
+    pub fn fit(&self, text: &[u8]) -> bool
+        ensures { result ≡ list_fits (names_in text.now self.now) }
+    {
+        self.count <= MOST_VARIABLES && self.are_short(text)
+    }
 }

@@ -6,10 +6,13 @@ use native.Mathlib.Nat.{min-eq_left, min-eq_right, add-zero}
 use native.Mathlib.Decide.{dec_le}
 use native.Mathlib.Omega.{arith}
 use mathlib.Core.Path.{◌≡◌, refl, sym, ap, ◌∙◌}
-use mathlib.Core.List.{[], ◌∷◌}
+use mathlib.Core.List.{List, [], ◌∷◌}
+use Rattle.std.specs.Prelude.{Some, None}
+use Rattle.std.specs.Bool.{then_some}
 use mathlib.Core.Bool.{Bool, true, false, not, and-true, false≢true}
-use lib.Dec.{eqb}
-use lib.ListN.{length, get_or, drop}
+use lib.Dec.{eqb, ltb}
+use borrow.Author.Tests.{ltb-true, ltb-false}
+use lib.ListN.{length, get_or, drop, drop_of_length-le}
 use lib.Seq.{drop-drop}
 use Rattle.grammar.specs.Bytes as bytes
 use Rattle.grammar.specs.Bytes.{Bytes, next, span, every, is_digit}
@@ -17,9 +20,8 @@ use Rattle.grammar.specs.Numbers.{value_after, value, no_leading_zero, is_number
 use Rattle.grammar.specs.Outcome.{done, refused}
 use Rattle.grammar.specs.Reading.{token, read_number}
 use Rattle.grammar.proofs.Reading.{span-split}
-use Rattle.text.specs.memory.Numbers.{beyond, digits_at, number_at, number_end, numbers_at, DigitsTold, NumberFound, ToldNumber}
-use Rattle.text.specs.declared.number.Digits.{Digits}
-use Rattle.text.specs.declared.number.Number.TheVariants.{Value, Beyond, Malformed}
+use Rattle.text.specs.memory.Numbers.{beyond, digits_at, number_at, number_end, numbers_at, DigitsTold, NumberFound, ToldValue, ToldNumber}
+use Rattle.text.specs.declared.read.Read.{Read}
 use Rattle.text.proofs.Places.{span_more}
 
 -- Values.
@@ -127,8 +129,8 @@ module _ (text : Bytes) (at : ℕ) where
     unfolding read_number token
     read_number_misspelled e = rw e
 
-  module _ (d : Digits) (told : DigitsTold text at d) (starts : at ≤ length text) where
-    pub number_misspelled : is_number (digits_at text at) ≡ false → ToldNumber text at Malformed
+  module _ (d : Read ℕ) (told : DigitsTold text at d) (starts : at ≤ length text) where
+    pub number_misspelled : is_number (digits_at text at) ≡ false → ToldNumber text at None
     number_misspelled e = λ refusal. read_number_misspelled refusal e
 
     module _ (spelled : is_number (digits_at text at) ≡ true) where
@@ -149,15 +151,22 @@ module _ (text : Bytes) (at : ℕ) where
             within = omega (arith, told.within);
           }
 
-      pub number_small : d.value < beyond → ToldNumber text at (Value d.next d.value)
+      pub number_small : d.value < beyond → ToldNumber text at (Some (record { value = Some d.value; next = d.next }))
       unfolding number_at
       number_small h =
           let e : d.value ≡ value (digits_at text at) = omega (arith, told.value) in
           record { found = rw e number-found; stands = told.value; small = h }
 
-      pub number-large : beyond ≤ d.value → ToldNumber text at (Beyond d.next)
+      pub number-large : beyond ≤ d.value → ToldNumber text at (Some (record { value = None; next = d.next }))
       unfolding number_at
       number-large h = record { number = value (digits_at text at); found = number-found; large = omega (arith, told.value) }
+
+      pub number_told : ToldValue text at d.next (then_some (ltb d.value beyond) d.value)
+      number_told = pick (ltb d.value beyond) refl
+        where
+          pick : (b : Bool) → ltb d.value beyond ≡ b → ToldValue text at d.next (then_some b d.value)
+          pick true e = number_small (ltb-true d.value beyond e)
+          pick false e = number-large (ltb-false d.value beyond e)
 
 -- Numbers one after the other.
 
@@ -175,3 +184,20 @@ pub numbers_at-more : (text : Bytes) (at many : ℕ) → 0 < many → numbers_at
 unfolding numbers_at
 numbers_at-more text at zero h = absurd (omega arith)
 numbers_at-more text at (suc many) h = let e : suc many - 1 ≡ many = omega arith in rw e
+
+-- behind the end of a text every place has the same numbers
+numbers_behind : (text : Bytes) (a b many : ℕ) → length text ≤ a → length text ≤ b → numbers_at text a many ≡ numbers_at text b many
+unfolding numbers_at number_at number_end span
+numbers_behind text a b zero h k = refl
+numbers_behind text a b (suc many) h k =
+    rw (drop_of_length-le text h, drop_of_length-le text k) (ap (λ (l : List ℕ). 0 ∷ l) (numbers_behind text (a + 0 + 1) (b + 0 + 1) many (omega arith) (omega arith)))
+
+-- so a place matters no further than the end
+pub numbers_capped : (text : Bytes) (at most many : ℕ) → length text ≤ most → numbers_at text (min at most) many ≡ numbers_at text at many
+numbers_capped text at most many h = pick (dec_le at most)
+  where
+    pick : Dec (at ≤ most) → numbers_at text (min at most) many ≡ numbers_at text at many
+    pick (yes k) = rw (min-eq_left k)
+    pick (no k) = numbers_behind text (min at most) at many (omega arith) (omega arith)
+
+pub ruleset counted = (length-numbers_at, numbers_at-none, numbers_at-more, numbers_capped)

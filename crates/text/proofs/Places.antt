@@ -6,11 +6,13 @@ use native.Mathlib.Numerals.{add-one}
 use native.Mathlib.Decide.{dec_lt}
 use native.Mathlib.Omega.{arith}
 use mathlib.Core.Path.{◌≡◌, refl, sym, ap, ◌∙◌}
-use mathlib.Core.List.{[], ◌∷◌}
-use mathlib.Core.Bool.{Bool, true, false, cond}
-use lib.ListN.{length, get_or, drop, drop_of_length-le, get_or-eq_default}
-use lib.Seq.{drop-cons, get_or-drop}
-use borrow.Author.Tests.{eq-eqb, ne_eqb}
+use mathlib.Core.List.{List, [], ◌∷◌}
+use mathlib.Core.Bool.{Bool, true, false, cond, not, ◌&&◌}
+use lib.ListN.{length, length-take, length-drop, get_or, take, drop, drop_of_length-le, get_or-eq_default}
+use lib.Seq.{take_all, drop-cons, get_or-drop}
+use lib.Dec.{eqb}
+use Rattle.std.specs.List.{take_while, prefix_len, starts_with}
+use Rattle.std.proofs.lemmas.List.Sums.{take_while-cons}
 use Rattle.grammar.specs.Bytes.{Bytes, next, span, begins}
 use Rattle.grammar.specs.Lines.{is_lf, line_size, lines_size, line_start}
 
@@ -18,7 +20,7 @@ module _ (s : Bytes) (i : ℕ) where
   pub next-within : get_or s i 0 ≡ next (drop i s)
   next-within = sym (get_or-drop i s 0 0 ∙ ap (λ (j : ℕ). get_or s j 0) (add-zero i))
 
-  pub next-beyond : length s ≤ i → 0 ≡ next (drop i s)
+  next-beyond : length s ≤ i → 0 ≡ next (drop i s)
   next-beyond h = sym (get_or-eq_default s 0 h) ∙ next-within
 
   -- a byte that is not 0 stands within the text
@@ -33,12 +35,6 @@ module _ (s : Bytes) (i : ℕ) where
   unfolding span
   span-beyond class h = rw (drop_of_length-le s h)
 
-  pub line_size-beyond : length s ≤ i → line_size (drop i s) ≡ 0
-  line_size-beyond h = rw (drop_of_length-le s h)
-
-  pub lines_size-beyond : (lines : ℕ) → length s ≤ i → lines_size (drop i s) lines ≡ 0
-  lines_size-beyond lines h = rw (drop_of_length-le s h)
-
   module _ (h : i < length s) where
     pub span_more : (class : ℕ → Bool) → class (get_or s i 0) ≡ true → span class (drop i s) ≡ get_or s i 0 ∷ span class (drop (i + 1) s)
     unfolding span
@@ -48,20 +44,6 @@ module _ (s : Bytes) (i : ℕ) where
     unfolding span
     span-stop class e = rw (drop-cons s i 0 h, e, span)
 
-    pub line_size-more : (get_or s i 0 ≡ 10 → ⊥) → line_size (drop i s) ≡ suc (line_size (drop (i + 1) s))
-    line_size-more e = rw (add-one, drop-cons s i 0 h, ne_eqb (get_or s i 0) 10 e)
-
-    pub line_size-stop : get_or s i 0 ≡ 10 → line_size (drop i s) ≡ 0
-    line_size-stop e = rw (drop-cons s i 0 h, e)
-
-    pub lines_size-more : (lines : ℕ) → 0 < lines → lines_size (drop i s) lines ≡ suc (lines_size (drop (i + 1) s) (lines - cond (is_lf (get_or s i 0)) 1 0))
-    lines_size-more zero k = absurd (omega arith)
-    lines_size-more (suc lines) k = rw (add-one, drop-cons s i 0 h) (pick (is_lf (get_or s i 0)))
-      where
-        pick : (b : Bool) → suc (lines_size (drop (suc i) s) (cond b lines (suc lines))) ≡ suc (lines_size (drop (suc i) s) (suc lines - cond b 1 0))
-        pick true = ap (λ (n : ℕ). suc (lines_size (drop (suc i) s) n)) (omega arith)
-        pick false = ap (λ (n : ℕ). suc (lines_size (drop (suc i) s) n)) (omega arith)
-
 pub lines_size-none : (s : Bytes) → lines_size s 0 ≡ 0
 lines_size-none [] = refl
 lines_size-none (b ∷ s) = refl
@@ -70,20 +52,40 @@ pub line_start-later : (s : Bytes) (line : ℕ) → (line ≡ 0 → ⊥) → lin
 line_start-later s zero h = absurd (h refl)
 line_start-later s (suc line) h = ap (lines_size s) (omega arith)
 
-pub feeds_atmost : (b : Bool) (lines : ℕ) → (lines ≡ 0 → ⊥) → cond b 1 0 ≤ lines
-feeds_atmost true lines h = omega arith
-feeds_atmost false lines h = omega arith
+-- the same by the library's words for the front of a list
 
--- a word against a text, from a place in each
-module _ (s w : Bytes) (i j : ℕ) where
-  pub begins-short : length s ≤ i → j < length w → begins (drop j w) (drop i s) ≡ false
-  begins-short h k = rw (drop_of_length-le s h, drop-cons w j 0 k)
+pub span-front : (class : ℕ → Bool) (s : Bytes) → length (take_while class s) ≡ length (span class s)
+unfolding span
+span-front class [] = refl
+span-front class (b ∷ s) = rw (take_while-cons class b s) (pick (class b) (span-front class s))
+  where
+    pick : (c : Bool) → length (take_while class s) ≡ length (span class s) → length (cond c (b ∷ take_while class s) []) ≡ length {A = ℕ} (elim c [ true ↦ b ∷ span class s | false ↦ [] ])
+    pick true e = ap suc e
+    pick false e = refl
 
-  pub begins_other : i < length s → j < length w → (get_or w j 0 ≡ get_or s i 0 → ⊥) → begins (drop j w) (drop i s) ≡ false
-  begins_other h k e = rw (drop-cons s i 0 h, drop-cons w j 0 k, ne_eqb (get_or w j 0) (get_or s i 0) e)
+pub line_size-front : (s : Bytes) → length (take_while (λ b. not (is_lf b)) s) ≡ line_size s
+line_size-front [] = refl
+line_size-front (b ∷ s) = rw (take_while-cons (λ (b : ℕ). not (is_lf b)) b s) (pick (is_lf b) (line_size-front s))
+  where
+    pick : (c : Bool) → length (take_while (λ b. not (is_lf b)) s) ≡ line_size s → length (cond (not c) (b ∷ take_while (λ b. not (is_lf b)) s) []) ≡ cond c 0 (suc (line_size s))
+    pick true e = refl
+    pick false e = ap suc e
 
-  pub begins-same : i < length s → j < length w → get_or w j 0 ≡ get_or s i 0 → begins (drop j w) (drop i s) ≡ begins (drop (j + 1) w) (drop (i + 1) s)
-  begins-same h k e = rw (add-one j, add-one i, drop-cons s i 0 h, drop-cons w j 0 k, eq-eqb (get_or w j 0) (get_or s i 0) e)
+pub begins-front : (w s : Bytes) → starts_with eqb s w ≡ begins w s
+begins-front [] s = refl
+begins-front (a ∷ w) [] = refl
+begins-front (a ∷ w) (b ∷ s) = ap (◌&&◌ (eqb a b)) (begins-front w s)
 
-pub begins_all : (w : Bytes) (j : ℕ) (s : Bytes) → length w ≤ j → begins (drop j w) s ≡ true
-begins_all w j s h = rw (drop_of_length-le w h)
+-- and of the rest of a text, as a slice has it
+module _ (s : Bytes) (at : ℕ) where
+  abbrev pub rest : List ℕ
+  rest = take (length s - at) (drop at s)
+
+  pub rest_all : rest ≡ drop at s
+  rest_all = take_all (length s - at) (drop at s) (omega (arith, length-drop at s))
+
+  -- what is counted at the rest's front ends within the text
+  pub front-within : (test : ℕ → Bool) → at ≤ length s → at + length (take_while test rest) ≤ length s
+  front-within test h =
+      let n : length rest ≡ length s - at = rw rest_all (length-drop at s) in
+      omega (arith, length-take (prefix_len test rest) rest)

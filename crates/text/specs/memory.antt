@@ -3,3 +3,5 @@ pub mod Found
 pub mod Going
 pub mod Numbers
 pub mod Sizes
+pub mod Told
+pub mod Listed

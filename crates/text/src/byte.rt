@@ -1,9 +1,9 @@
 // Bytes at a place of a text: their classes, runs of a class, and words.
-ghost use Rattle.std.specs.Prelude.{◌≡◌, ◌+◌, ◌≤◌, length, drop};
+ghost use Rattle.std.specs.Prelude.{◌≡◌, ◌+◌, ◌≤◌, length, take_while, drop};
 ghost use Rattle.grammar.specs.Bytes.{next, span, begins, is_digit, is_capital, is_small, is_printable};
 ghost use Rattle.text.specs.memory.Classes.{in_class};
 
-// A class of bytes.
+// A class of bytes. An enum and no closure: a contract can say which class a run is of, and a closure would need one to say it.
 #[derive(Clone, Copy)]
 pub enum Class {
     Digit,
@@ -12,79 +12,51 @@ pub enum Class {
     Printable,
 }
 
-// The place after something that is asked for, if it stands there.
-#[derive(Clone, Copy)]
-pub enum Ended {
-    At(usize),
-    Malformed,
-}
-
 // The byte at a place; 0 at the end.
 pub fn peek(text: &[u8], at: usize) -> u8
     ensures { result ≡ next (drop at text.now) }
 {
-    if at < text.len() { text[at] } else { 0 }
+    text.get(at).copied().unwrap_or(0)
 }
 
+// By the library, told in the statement's words; so are the next two.
 pub fn is_digit(b: u8) -> bool
     ensures { result ≡ is_digit b }
 {
-    match b {
-        b'0'..=b'9' => true,
-        _ => false,
-    }
+    b.is_ascii_digit()
 }
 
 pub fn is_capital(b: u8) -> bool
     ensures { result ≡ is_capital b }
 {
-    match b {
-        b'A'..=b'Z' => true,
-        _ => false,
-    }
+    b.is_ascii_uppercase()
 }
 
 pub fn is_small(b: u8) -> bool
     ensures { result ≡ is_small b }
 {
-    match b {
-        b'a'..=b'z' => true,
-        _ => false,
+    b.is_ascii_lowercase()
+}
+
+impl Class {
+    // Whether a byte is of the class.
+    fn has(self, b: u8) -> bool
+        ensures { result ≡ in_class self b }
+    {
+        match self {
+            Class::Digit => is_digit(b),
+            Class::SmallOrDigit => is_small(b) || is_digit(b),
+            Class::LetterOrDigit => is_capital(b) || is_small(b) || is_digit(b),
+            Class::Printable => b.is_ascii_graphic(),
+        }
     }
 }
 
-fn is_printable(b: u8) -> bool
-    ensures { result ≡ is_printable b }
+// How many bytes of a class stand at the front.
+fn run_size(rest: &[u8], class: Class) -> usize
+    ensures { result ≡ length (take_while (in_class class) rest.now) }
 {
-    match b {
-        b'!'..=b'~' => true,
-        _ => false,
-    }
-}
-
-// Whether a byte is of a class.
-fn belongs(class: Class, b: u8) -> bool
-    ensures { result ≡ in_class class b }
-{
-    match class {
-        Class::Digit => is_digit(b),
-        Class::SmallOrDigit => {
-            if is_small(b) {
-                return true;
-            }
-            is_digit(b)
-        }
-        Class::LetterOrDigit => {
-            if is_capital(b) {
-                return true;
-            }
-            if is_small(b) {
-                return true;
-            }
-            is_digit(b)
-        }
-        Class::Printable => is_printable(b),
-    }
+    rest.iter().take_while(|b| class.has(**b)).count()
 }
 
 // The place after the longest run of bytes of a class.
@@ -92,14 +64,7 @@ pub fn run_end(text: &[u8], at: usize, class: Class) -> usize
     requires { at ≤ length text.now }
     ensures { (result ≡ at + length (span (in_class class) (drop at text.now))) × (result ≤ length text.now) }
 {
-    let mut i = at;
-    while i < text.len() {
-        if !belongs(class, text[i]) {
-            return i;
-        }
-        i += 1;
-    }
-    i
+    at + run_size(&text[at..], class)
 }
 
 // Whether a word stands at a place.
@@ -107,15 +72,5 @@ pub fn begins_at(text: &[u8], at: usize, word: &[u8]) -> bool
     requires { at ≤ length text.now }
     ensures { result ≡ begins word.now (drop at text.now) }
 {
-    let mut i: usize = 0;
-    while i < word.len() {
-        if text.len() - at <= i {
-            return false;
-        }
-        if text[at + i] != word[i] {
-            return false;
-        }
-        i += 1;
-    }
-    true
+    text[at..].starts_with(word)
 }

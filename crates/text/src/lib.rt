@@ -4,6 +4,8 @@
 pub mod byte;
 pub mod cell;
 pub mod line;
+pub mod listed;
 pub mod name;
 pub mod number;
+pub mod read;
 pub mod size;

@@ -2,34 +2,33 @@
 ghost use Rattle.std.specs.Prelude.{◌≡◌, take, drop};
 ghost use Rattle.grammar.specs.Bytes.{same};
 
-// The bytes from a place on, as many as are asked for and stand there.
-pub fn part(text: &[u8], at: usize, size: usize) -> &[u8]
-    ensures { result.now ≡ take size (drop at text.now) }
-{
-    let whole = text.len();
-    if whole <= at {
-        return &text[whole..];
-    }
-    if whole - at <= size {
-        return &text[at..];
-    }
-    let end = at + size;
-    &text[at..end]
+// A name, by its place in a text.
+#[derive(Clone, Copy)]
+pub struct Name {
+    pub start: u32,
+    pub size: u32,
 }
 
-// Whether two names have the same bytes.
+impl Name {
+    // Its bytes, as far as they stand in the text.
+    pub fn of(self, text: &[u8]) -> &[u8]
+        ensures { result.now ≡ take self.size (drop self.start text.now) }
+    {
+        part(text, self.start as usize, self.size as usize)
+    }
+}
+
+// What stands in a list from a place on, as much as is asked for and stands there.
+pub fn part<T>(list: &[T], at: usize, size: usize) -> &[T]
+    ensures { result.now ≡ take size (drop at list.now) }
+{
+    let rest = list.get(at..).unwrap_or(&[]);
+    rest.get(..size).unwrap_or(rest)
+}
+
+// Whether two names have the same bytes; `==`, told in the statement's words.
 pub fn equal(a: &[u8], b: &[u8]) -> bool
     ensures { result ≡ same a.now b.now }
 {
-    if a.len() != b.len() {
-        return false;
-    }
-    let mut i: usize = 0;
-    while i < a.len() {
-        if a[i] != b[i] {
-            return false;
-        }
-        i += 1;
-    }
-    true
+    a == b
 }

@@ -1,95 +1,66 @@
 // A problem that was read, written from its table and rows: its own text again.
-use casefile::say;
 use std::io::Result;
-use table::table::{Table, entry};
+use table::table::{Predicate, Table};
 use text::name::part;
 
 // A row's elements, from the number that it is.
-fn row(rt: &impl Print, key: u32, arity: usize) -> Result<()> {
+fn row(rt: &impl Print, key: u32, arity: u32) -> Result<()> {
     let mut left = key;
-    let mut place: usize = 0;
-    while place < arity {
+    for place in 0..arity {
         if place > 0 {
-            say::word(rt, b".")?;
+            print!(rt; ".")?;
         }
-        say::number(rt, (left % 256) as u64)?;
-        left = left / 256;
-        place += 1;
-    }
-    Ok(())
-}
-
-fn listed(rt: &impl Print, rows: &[u32], first: usize, count: usize, arity: usize) -> Result<()> {
-    let mut i = first;
-    let mut left = count;
-    while i < rows.len() {
-        if left == 0 {
-            return Ok(());
-        }
-        if left < count {
-            say::word(rt, b",")?;
-        }
-        row(rt, rows[i], arity)?;
-        i += 1;
-        left -= 1;
+        print!(rt; "{}", left % 256)?;
+        left /= 256;
     }
     Ok(())
 }
 
 // What stands behind `rows=`: a truth value for arity 0.
-fn relation(rt: &impl Print, rows: &[u32], first: usize, count: usize, arity: usize) -> Result<()> {
-    if arity > 0 {
-        return listed(rt, rows, first, count, arity);
+fn relation(rt: &impl Print, rows: &[u32], arity: u32) -> Result<()> {
+    if arity == 0 {
+        return print!(rt; "{}", !rows.is_empty());
     }
-    if count > 0 {
-        say::word(rt, b"true")
-    } else {
-        say::word(rt, b"false")
+    for (i, key) in rows.iter().enumerate() {
+        if i > 0 {
+            print!(rt; ",")?;
+        }
+        row(rt, *key, arity)?;
     }
+    Ok(())
 }
 
-fn predicate(rt: &impl Print, text: &[u8], table: Table, i: u32) -> Result<()> {
-    let starts = table.start;
-    let sizes = table.size;
-    let arities = table.arity;
-    say::word(rt, part(text, entry(starts, i), entry(sizes, i)))?;
-    say::counted(rt, b"/", entry(arities, i) as u64)?;
-    say::word(rt, b"\n")
+// A predicate's name and arity.
+fn predicate(rt: &impl Print, text: &[u8], predicate: Predicate) -> Result<()> {
+    rt.write_all(predicate.name.of(text))?;
+    println!(rt; "/{}", predicate.arity)
 }
 
-fn input(rt: &impl Print, text: &[u8], table: Table, rows: &[u32], i: u32) -> Result<()> {
-    say::word(rt, b"input=")?;
-    predicate(rt, text, table, i)?;
-    let firsts = table.first;
-    let counts = table.rows;
-    let arities = table.arity;
-    say::word(rt, b"rows=")?;
+fn input(rt: &impl Print, text: &[u8], rows: &[u32], input: Predicate) -> Result<()> {
+    print!(rt; "input=")?;
+    predicate(rt, text, input)?;
+    print!(rt; "rows=")?;
     relation(
         rt,
-        rows,
-        entry(firsts, i),
-        entry(counts, i),
-        entry(arities, i),
+        part(rows, input.first as usize, input.rows as usize),
+        input.arity,
     )?;
-    say::word(rt, b"\n")
+    println!(rt)
 }
 
-fn output(rt: &impl Print, text: &[u8], table: Table, i: u32) -> Result<()> {
-    say::word(rt, b"output=")?;
-    predicate(rt, text, table, i)
+fn output(rt: &impl Print, text: &[u8], output: Predicate) -> Result<()> {
+    print!(rt; "output=")?;
+    predicate(rt, text, output)
 }
 
-pub fn problem(rt: &impl Print, text: &[u8], table: Table, rows: &[u32]) -> Result<()> {
-    say::counted(rt, b"domain=", table.domain as u64)?;
-    say::word(rt, b"\n")?;
-    let mut i: u32 = 0;
-    while i < table.count {
+pub fn problem(rt: &impl Print, text: &[u8], table: &Table, rows: &[u32]) -> Result<()> {
+    println!(rt; "domain={}", table.domain)?;
+    for i in 0..table.count {
         if i < table.inputs {
-            input(rt, text, table, rows, i)?;
+            input(rt, text, rows, table.predicate(i))?;
         } else {
-            output(rt, text, table, i)?;
+            output(rt, text, table.predicate(i))?;
         }
-        i += 1;
     }
     Ok(())
 }

@@ -1,105 +1,66 @@
 // The file `lines`: derivation lines, each with the number of its line and what it is read as.
-ghost use Rattle.std.specs.Prelude.{◌≤◌, ◌<◌, length, IfOk};
-
-use casefile::{say, texts};
-use derivation::rule_line::{AtPosition, LineRead, Rule};
+use casefile::texts::after_line;
+use derivation::rule_line::{Line, Position, Rule, RuleLine, line_at};
 use std::io::Result;
 use std::rt::Files;
+use text::read::Read;
 
-fn say_rule(rt: &impl Print, rule: Rule) -> Result<()> {
+// A rule's word in a line. The type is the derivation's, so that it can't be shown by a `Display` of this crate.
+fn word(rule: Rule) -> &'static str {
     match rule {
-        Rule::Snand => say::word(rt, b"SNAND"),
-        Rule::Snor => say::word(rt, b"SNOR"),
-        Rule::Stn => say::word(rt, b"STN"),
-        Rule::Epred => say::word(rt, b"EPRED"),
-        Rule::Eprop => say::word(rt, b"EPROP"),
-        Rule::Iq => say::word(rt, b"IQ"),
+        Rule::Snand => "SNAND",
+        Rule::Snor => "SNOR",
+        Rule::Stn => "STN",
+        Rule::Epred => "EPRED",
+        Rule::Eprop => "EPROP",
+        Rule::Iq => "IQ",
     }
 }
 
-fn say_kind(rt: &impl Print, kind: AtPosition) -> Result<()> {
-    match kind {
-        AtPosition::Rewrite(rule) => say_rule(rt, rule),
-        AtPosition::Unsat => say::word(rt, b"UNSAT"),
-        AtPosition::Trivial => say::word(rt, b"TRIVIAL"),
+fn step(rt: &impl Print, word: &str, position: Position) -> Result<()> {
+    print!(rt;
+        "{word} name={} steps={}",
+        position.name, position.path.many
+    )
+}
+
+// What a line is read as.
+fn one(rt: &impl Print, line: Line) -> Result<()> {
+    match line {
+        Line::Step(RuleLine::Rewrite(rule, position)) => step(rt, word(rule), position),
+        Line::Step(RuleLine::Unsat(position)) => step(rt, "UNSAT", position),
+        Line::Step(RuleLine::Trivial(position)) => step(rt, "TRIVIAL", position),
+        Line::Step(RuleLine::Splitc(position, names)) => {
+            step(rt, "SPLITC", position)?;
+            print!(rt; " names={}", names.many)
+        }
+        Line::Footer(names) => print!(rt; "FINAL names={}", names.many),
     }
 }
 
-fn say_position(rt: &impl Print, name: u32, steps: usize) -> Result<()> {
-    say::counted(rt, b" name=", name as u64)?;
-    say::counted(rt, b" steps=", steps as u64)
-}
-
-// Prints what the line at a place is read as; the place after it.
-fn one(rt: &impl Print, text: &[u8], at: usize) -> Result<usize>
-    requires { at < length text.now }
-    ensures { IfOk result (λ next. (at < next) × (next ≤ length text.now)) }
-{
-    match derivation::rule_line::line_at(text, at) {
-        LineRead::Position {
-            kind,
-            name,
-            path: _,
-            steps,
-            next,
-        } => {
-            say_kind(rt, kind)?;
-            say_position(rt, name, steps)?;
-            Ok(next)
-        }
-        LineRead::Split {
-            name,
-            path: _,
-            steps,
-            names: _,
-            many,
-            next,
-        } => {
-            say::word(rt, b"SPLITC")?;
-            say_position(rt, name, steps)?;
-            say::counted(rt, b" names=", many as u64)?;
-            Ok(next)
-        }
-        LineRead::Footer {
-            names: _,
-            many,
-            next,
-        } => {
-            say::counted(rt, b"FINAL names=", many as u64)?;
-            Ok(next)
-        }
-        LineRead::Malformed => {
-            say::word(rt, b"10")?;
-            Ok(texts::after_line(text, at))
-        }
-        LineRead::Heading { next: _ } => Ok(texts::after_line(text, at)),
-    }
-}
-
-// The same, behind the line's number and before an LF.
-fn numbered(rt: &impl Print, text: &[u8], at: usize, line: u64) -> Result<usize>
-    requires { at < length text.now }
-    ensures { IfOk result (λ next. (at < next) × (next ≤ length text.now)) }
-{
-    say::counted(rt, b"line ", line)?;
-    say::word(rt, b": ")?;
-    let next = one(rt, text, at)?;
-    say::word(rt, b"\n")?;
-    Ok(next)
-}
-
+// Goes on by places: a line that is refused has no place behind it, and is passed over to its end.
 fn each(rt: &impl Print, text: &[u8]) -> Result<()> {
     let mut at: usize = 0;
-    let mut line: u64 = 1;
+    let mut line: usize = 1;
     while at < text.len() {
-        at = numbered(rt, text, at, line)?;
+        print!(rt; "line {line}: ")?;
+        match line_at(text, at) {
+            Some(Read { value, next }) => {
+                one(rt, value)?;
+                at = next;
+            }
+            None => {
+                print!(rt; "10")?;
+                at = after_line(text, at);
+            }
+        }
+        println!(rt)?;
         line += 1;
     }
     Ok(())
 }
 
 pub fn run(rt: &(impl Files + Print)) -> Result<()> {
-    let mut buffer = io::large_buffer();
-    let n = say::load(rt, b"lines", &mut buffer);
-    each(rt, &buffer[..n])
+    let mut room = io::large_buffer();
+    each(rt, casefile::load(rt, b"lines", &mut room))
 }

@@ -3,14 +3,14 @@
 
 mod echo;
 mod headings;
-mod jobs;
 mod lines;
 mod problems;
 mod refused;
+mod texts;
 
 use std::io::Result;
 
 fn main(rt: HostRuntime) -> Result<()> {
     lines::run(&rt)?;
-    jobs::run(&rt)
+    texts::run(&rt)
 }

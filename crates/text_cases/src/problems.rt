@@ -1,25 +1,22 @@
-// A problem: the number and the line that it is refused with, or 0 and what was read.
-ghost use Rattle.std.specs.Prelude.{◌≤◌, length};
-
+// The files `problems` and `edges`: problems, each as 0 and what was read, or the number and the line that it is refused with.
 use crate::echo;
-use casefile::say;
-use problem::problem_line::read_problem;
+use problem::problem_line::{Refusal, read_problem};
 use std::io::Result;
+use text::size::TEXT_SIZE;
 
-pub fn one(rt: &impl Print, name: &[u8], text: &[u8], rows: &mut [u32]) -> Result<()>
-    requires { 1056 ≤ length rows.old }
-{
-    say::word(rt, name)?;
-    if text.len() > 65536 {
-        return say::word(rt, b": 2\n");
+// As many numbers as a problem's rows may take.
+pub const ROWS: usize = 1056;
+
+pub fn one(rt: &impl Print, name: &[u8], text: &[u8], rows: &mut [u32; ROWS]) -> Result<()> {
+    rt.write_all(name)?;
+    if text.len() > TEXT_SIZE {
+        return println!(rt; ": 2");
     }
-    let read = read_problem(text, rows);
-    say::counted(rt, b": ", read.number as u64)?;
-    if read.number != 0 {
-        say::counted(rt, b" at line ", read.line as u64)?;
-        return say::word(rt, b"\n");
+    match read_problem(text, rows) {
+        Ok(table) => {
+            println!(rt; ": 0")?;
+            echo::problem(rt, text, &table, rows)
+        }
+        Err(Refusal { fault, line }) => println!(rt; ": {} at line {line}", fault.number()),
     }
-    say::word(rt, b"\n")?;
-    let table = read.table;
-    echo::problem(rt, text, table, rows)
 }

@@ -8,7 +8,7 @@ use mathlib.Core.Path.{◌≡◌, refl, sym, ap, ap₂, ◌∙◌}
 use mathlib.Core.List.{List, [], ◌∷◌, ◌++◌}
 use mathlib.Core.Bool.{Bool, true, false, ◌&&◌, and-true}
 use lib.Dec.{leb}
-use lib.ListN.{length, get_or, take, drop, length-append}
+use lib.ListN.{length, take, drop, length-append}
 use lib.Seq.{sets-eq, take_at}
 use borrow.Author.Tests.{leb-true}
 use Rattle.grammar.specs.Sizes.{variable_count, guard_quantifier_count, formula_count, theory_size}
@@ -26,12 +26,14 @@ use Rattle.logic.proofs.Limits.{size_total-append}
 use Rattle.demands.specs.TheoryText.{theory_line, theory_of}
 use Rattle.text.specs.memory.Going.{Going}
 use Rattle.text.proofs.Going.{going_first, going_on, going_refused, going_end}
-use Rattle.table.specs.memory.Table.{indexed}
 use Rattle.words.specs.memory.Words.{all_words}
 use Rattle.words.proofs.memory.Words.{all_words-sizes}
+use Rattle.terms.specs.declared.name_table.NameTable.{NameTable}
 use Rattle.terms.specs.memory.NameTable.{extended_by, index_in, names_in, list_fits}
 use Rattle.terms.specs.memory.Entries.{Memory}
 use Rattle.terms.proofs.memory.Variables.{fits-variables}
+use Rattle.text.specs.declared.read.Read.{Read}
+use Rattle.reading.specs.declared.theory_line.TheoryLine.{TheoryLine}
 use Rattle.reading.specs.memory.TheoryLines.{read_theory_line, TheoryLineFound}
 use Rattle.reading.proofs.memory.TheoryLines.{line_then, TheoryEntered, theory_none, theory_more, sizes-total}
 use Rattle.theory.specs.memory.TheoryReads.{totals_fit, TheoryFound}
@@ -104,8 +106,8 @@ pub record TheoryGoing (P : Problem) (text : Bytes) (index : Name → ℕ) (old 
   pub entered : TheoryEntered text index old 0 formulas new
 
 -- a table without names
-pub names-none : (text : Bytes) (names : List ℕ) → get_or names 0 0 ≡ 0 → names_in text names ≡ []
-unfolding names_in indexed
+pub names-none : (text : Bytes) (names : NameTable) → names.count ≡ 0 → names_in text names ≡ []
+unfolding names_in
 names-none text names e = rw e
 
 module _ (P : Problem) (text : Bytes) (index : Name → ℕ) (old : Memory) where
@@ -130,7 +132,7 @@ module _ {P : Problem} {text : Bytes} {index : Name → ℕ} {old : Memory} (emp
         going_refused 2 (theory_line P) done text (theory_of P text) at (count + 1) g.formulas g.going more number
         (theory_line_lem P g.formulas (drop at text) ∙ rw e)
 
-    module _ {next extent guarded : ℕ} {new : Memory} (f : TheoryLineFound P text index at mid full next extent guarded new) where
+    module _ {r : Read TheoryLine} {new : Memory} (f : TheoryLineFound P text index at mid full r new) where
       abbrev later : List Formula
       later = g.formulas ++ (f.formula ∷ [])
 
@@ -139,24 +141,24 @@ module _ {P : Problem} {text : Bytes} {index : Name → ℕ} {old : Memory} (emp
           theory_more text index old 0 g.formulas mid g.entered f.formula new
           (rw (g.measured, ← zero-add (size_total g.formulas)) at f.entered)
 
-      totals : limits_fit later ≡ totals_fit (full + extent) (count + 1) guarded (names_in text new.names)
+      totals : limits_fit later ≡ totals_fit (full + r.value.size) (count + 1) r.value.guarded (names_in text new.names)
       totals =
           limits_more g.formulas f.formula g.fits
           ∙ rw (g.measured, g.counted, f.measured, f.counted, entered-more.names, empty)
 
       read : (b : Bool) → limits_fit later ≡ b
-          → theory_line P g.formulas (drop at text) ≡ reading.◌>>◌ (require 9 b) (give later) (drop next text)
+          → theory_line P g.formulas (drop at text) ≡ reading.◌>>◌ (require 9 b) (give later) (drop r.next text)
       read b e = theory_line_lem P g.formulas (drop at text) ∙ rw (f.is, e)
 
-      pub theory_over : totals_fit (full + extent) (count + 1) guarded (names_in text new.names) ≡ false → theory_of P text ≡ refused (refusal 9 2 (count + 1))
+      pub theory_over : totals_fit (full + r.value.size) (count + 1) r.value.guarded (names_in text new.names) ≡ false → theory_of P text ≡ refused (refusal 9 2 (count + 1))
       theory_over e =
           going_refused 2 (theory_line P) done text (theory_of P text) at (count + 1) g.formulas g.going more 9 (read false (totals ∙ e))
 
-      pub theory_on : totals_fit (full + extent) (count + 1) guarded (names_in text new.names) ≡ true → TheoryGoing P text index old next (count + 1) (full + extent) new
+      pub theory_on : totals_fit (full + r.value.size) (count + 1) r.value.guarded (names_in text new.names) ≡ true → TheoryGoing P text index old r.next (count + 1) (full + r.value.size) new
       theory_on e =
           record {
             formulas = later;
-            going = going_on 2 (theory_line P) done text (theory_of P text) at (count + 1) g.formulas g.going more next later (read true (totals ∙ e))
+            going = going_on 2 (theory_line P) done text (theory_of P text) at (count + 1) g.formulas g.going more r.next later (read true (totals ∙ e))
                 (omega (arith, f.after)) f.within;
             counted = rw g.counted (sym (length_more g.formulas f.formula));
             measured = rw (g.measured, f.measured) (sym (size-more g.formulas f.formula));

@@ -1,3 +1,4 @@
+pub mod Tags
 pub mod Kinds
 pub mod Words
 pub mod Stored

@@ -1,12 +1,9 @@
 // Words of memory: a formula is one word for each unit of its size, each formula before its parts.
 ghost use Rattle.std.specs.Prelude.{◌≡◌, ◌≤◌, ◌<◌, get_or, drop};
-ghost use Rattle.words.specs.declared.word.Kind.TheVariants.{Connective};
 ghost use Rattle.words.specs.memory.Kinds.{kind_of, part_count, elements_at};
+ghost use Rattle.words.specs.memory.Paths.{subformula_count};
 
-use crate::tag::{
-    ATOM, CONJUNCTION, DISJUNCTION, ELEMENT, EQUALITY, EQUIVALENT, EVERY, FALSE, IMPLIED_BY,
-    IMPLIES, NEGATION, SOME, TRUE,
-};
+use crate::tag::Tag;
 
 // Which connective.
 #[derive(Clone, Copy)]
@@ -30,59 +27,63 @@ pub enum Kind {
     Term,
 }
 
-fn connective(sign: Sign, parts: u32) -> Kind
-    ensures { result ≡ Connective sign parts }
-{
-    Kind::Connective { sign, parts }
-}
+impl From<u32> for Kind {
+    ghost from_gives = { λ word kind. kind ≡ kind_of word };
 
-pub fn kind_of(word: u32) -> Kind
-    ensures { result ≡ kind_of word }
-{
-    let payload = word / 16;
-    match word % 16 {
-        FALSE => Kind::Truth(false),
-        TRUE => Kind::Truth(true),
-        NEGATION => connective(Sign::Negation, payload),
-        CONJUNCTION => connective(Sign::Junction { every: true }, payload),
-        DISJUNCTION => connective(Sign::Junction { every: false }, payload),
-        IMPLIES => connective(Sign::Implies, payload),
-        IMPLIED_BY => connective(Sign::ImpliedBy, payload),
-        EQUIVALENT => connective(Sign::Equivalent, payload),
-        EVERY => Kind::Quantifier {
-            every: true,
+    #[tactic(auto, unfolding(crate::specs::memory::Kinds::kind_by))]
+    fn from(word: u32) -> Kind {
+        let payload = word / 16;
+        let connective = |sign| Kind::Connective {
+            sign,
+            parts: payload,
+        };
+        let quantifier = |every| Kind::Quantifier {
+            every,
             variable: payload,
-        },
-        SOME => Kind::Quantifier {
-            every: false,
-            variable: payload,
-        },
-        ATOM => Kind::Atom {
-            predicate: payload % 256,
-            terms: payload / 256,
-        },
-        EQUALITY => Kind::Equality,
-        _ => Kind::Term,
+        };
+        match Tag::of(word) {
+            Some(Tag::False) => Kind::Truth(false),
+            Some(Tag::True) => Kind::Truth(true),
+            Some(Tag::Negation) => connective(Sign::Negation),
+            Some(Tag::Conjunction) => connective(Sign::Junction { every: true }),
+            Some(Tag::Disjunction) => connective(Sign::Junction { every: false }),
+            Some(Tag::Implies) => connective(Sign::Implies),
+            Some(Tag::ImpliedBy) => connective(Sign::ImpliedBy),
+            Some(Tag::Equivalent) => connective(Sign::Equivalent),
+            Some(Tag::Every) => quantifier(true),
+            Some(Tag::Any) => quantifier(false),
+            Some(Tag::Atom) => Kind::Atom {
+                predicate: payload % 256,
+                terms: payload / 256,
+            },
+            Some(Tag::Equality) => Kind::Equality,
+            Some(Tag::Element | Tag::Variable) | None => Kind::Term,
+        }
     }
 }
 
-// How many formulas or terms follow a word of a kind as its parts.
-fn part_count(kind: Kind) -> u32
-    ensures { result ≡ part_count kind }
-{
-    match kind {
-        Kind::Truth(_) => 0,
-        Kind::Atom {
-            predicate: _,
-            terms,
-        } => terms,
-        Kind::Equality => 2,
-        Kind::Connective { sign: _, parts } => parts,
-        Kind::Quantifier {
-            every: _,
-            variable: _,
-        } => 2,
-        Kind::Term => 0,
+impl Kind {
+    // How many formulas or terms follow a word of the kind as its parts.
+    fn part_count(self) -> u32
+        ensures { result ≡ part_count self }
+    {
+        match self {
+            Kind::Atom { terms, .. } => terms,
+            Kind::Equality | Kind::Quantifier { .. } => 2,
+            Kind::Connective { parts, .. } => parts,
+            _ => 0,
+        }
+    }
+
+    // How many formulas a path can go on to from a formula of the kind.
+    pub fn subformula_count(self) -> u32
+        ensures { result ≡ subformula_count self }
+    {
+        match self {
+            Kind::Connective { parts, .. } => parts,
+            Kind::Quantifier { .. } => 2,
+            _ => 0,
+        }
     }
 }
 
@@ -90,29 +91,26 @@ fn part_count(kind: Kind) -> u32
 pub fn parts_of(word: u32) -> usize
     ensures { (result ≡ part_count (kind_of word)) × (result < 4294967296) }
 {
-    part_count(kind_of(word)) as usize
+    Kind::from(word).part_count() as usize
 }
 
 // The word at a place; 0 past the end.
 pub fn peek(work: &[u32], at: usize) -> u32
     ensures { result ≡ get_or work.now at 0 }
 {
-    if at < work.len() { work[at] } else { 0 }
+    work.get(at).copied().unwrap_or(0)
 }
 
 // Whether so many terms, one after the other, are elements.
+#[tactic(auto, using(crate::proofs::memory::Kinds::elements))]
 pub fn are_elements(work: &[u32], at: usize, count: u32) -> bool
     requires { (at ≤ 16385) × (count ≤ 4) }
     ensures { result ≡ elements_at count (drop at work.now) }
 {
-    let mut i = at;
-    let mut pending = count;
-    while pending > 0 {
-        if peek(work, i) % 16 != ELEMENT {
+    for i in at..at + count as usize {
+        if !Tag::Element.is_of(peek(work, i)) {
             return false;
         }
-        i += 1;
-        pending -= 1;
     }
     true
 }

@@ -6,8 +6,7 @@ use native.Mathlib.Omega.{arith}
 use mathlib.Core.Path.{◌≡◌, refl, sym, ap₂, ◌∙◌}
 use mathlib.Core.List.{List, [], ◌∷◌, ◌++◌, append_assoc}
 use mathlib.Core.Bool.{Bool, true, false, ◌&&◌}
-use borrow.Author.Tests.{ne_eqb, lt-leb, le-leb}
-use lib.Dec.{ltb}
+use borrow.Author.Tests.{ne_eqb}
 use lib.ListN.{length, get_or, drop, drop_of_length-le}
 use lib.Seq.{drop-drop, drop-cons}
 use Rattle.grammar.specs.Problem.{Name, Problem, is_output}
@@ -19,105 +18,75 @@ use Rattle.table.specs.declared.table.Table.{Table}
 use Rattle.words.specs.memory.Kinds.{kind_of, skip}
 use Rattle.words.specs.memory.Words.{part_total, words}
 use Rattle.words.specs.declared.word.Sign.{Sign}
-use Rattle.words.specs.declared.word.Sign.TheVariants.{Negation, Junction}
 use Rattle.words.specs.declared.word.Kind.{Kind}
 use Rattle.words.specs.declared.word.Kind.TheVariants as kind
 use Rattle.words.proofs.memory.Naming.{Naming, words_in, all_words_in, term_words_in, Storable, AllStorable}
 use Rattle.words.proofs.memory.Words.{elements-words, sign_of, kind_truth, kind_equal, kind_connective, kind_quantifier, kind_atom, after_first-words}
 use Rattle.clauses.specs.memory.Clauses.{all_at, is_output_index, ground_atom_by, ground_atom_at, connective_clause_at, clause_by, clause_at}
 
--- An output predicate's index.
-
-module _ (table : Table) (p : ℕ) where
-  pub output_input : p < table.inputs → false ≡ is_output_index table p
-  output_input h = rw (lt-leb table.inputs p h)
-
-  pub output_behind : table.inputs ≤ p → ltb p table.count ≡ is_output_index table p
-  output_behind h = rw (le-leb table.inputs p h)
-
--- A turn of each loop.
+-- A turn of the loop over formulas, `i` of `n` of which are behind.
 
 pub all_none : (test : List ℕ → Bool) (n : ℕ) (s : List ℕ) → n ≡ 0 → all_at test n s ≡ true
 unfolding all_at
 all_none test n s e = rw e
 
-module _ (test : List ℕ → Bool) (work : List ℕ) (i n : ℕ) (more : 0 < n) where
-  all_first : all_at test n (drop i work) ≡ (test (drop i work) && all_at test (n - 1) (drop (i + skip (drop i work) 1) work))
-  unfolding all_at
-  all_first = pick n more
-    where
-      pick : (n : ℕ) → 0 < n → all_at test n (drop i work) ≡ (test (drop i work) && all_at test (n - 1) (drop (i + skip (drop i work) 1) work))
-      pick zero h = absurd (omega arith)
-      pick (suc n) h = rw (sub-one (suc n), drop-drop (skip (drop i work) 1) i work)
-
-  pub all_more : test (drop i work) ≡ true → all_at test n (drop i work) ≡ all_at test (n - 1) (drop (i + skip (drop i work) 1) work)
-  all_more e = rw (all_first, e)
-
-  pub all_stop : test (drop i work) ≡ false → all_at test n (drop i work) ≡ false
-  all_stop e = rw (all_first, e)
+pub all_first : (test : List ℕ → Bool) (work : List ℕ) (place i n : ℕ) → i < n
+    → all_at test (n - i) (drop place work) ≡ (test (drop place work) && all_at test (n - (i + 1)) (drop (place + skip (drop place work) 1) work))
+unfolding all_at
+all_first test work place i n more =
+    let e : n - i ≡ suc (n - (i + 1)) = omega arith in
+    rw (e, drop-drop (skip (drop place work) 1) place work)
 
 -- An atom at a place, which may lie past the end.
-ground_kind : (table : Table) (work : List ℕ) (at word : ℕ) (k j : Kind) → word ≡ get_or work at 0 → j ≡ kind_of word → j ≡ k
-    → ground_atom_at table (drop at work) ≡ ground_atom_by table k (drop (at + 1) work)
+pub ground_kind : (table : Table) (work : List ℕ) (at : ℕ) → ground_atom_at table (drop at work) ≡ ground_atom_by table (kind_of (get_or work at 0)) (drop (at + 1) work)
 unfolding ground_atom_at
-ground_kind table work at word k j e h is =
-    let told : kind_of (get_or work at 0) ≡ k = rw e at (sym h) ∙ is in
-    rw (← next-within work at, told, drop-drop 1 at work)
+ground_kind table work at = rw (← next-within work at, drop-drop 1 at work)
 
--- what was told of what stands behind is told of the whole
-pub ground-told : (table : Table) (work : List ℕ) (at word : ℕ) (j : Kind) → word ≡ get_or work at 0 → j ≡ kind_of word → (k : Kind) → j ≡ k
-    → (b : Bool) → b ≡ ground_atom_by table k (drop (at + 1) work) → b ≡ ground_atom_at table (drop at work)
-ground-told table work at word j e h k is b so = so ∙ sym (ground_kind table work at word k j e h is)
-
--- A connective.
-module _ (table : Table) (test : List ℕ → Bool) (sign : Sign) (n : ℕ) (s : List ℕ) where
-  pub negation_other : sign ≡ Negation → (n ≡ 1 → ⊥) → false ≡ connective_clause_at table test sign n s
-  negation_other e h = rw (e, ne_eqb n 1 h)
-
-  pub negation_one : sign ≡ Negation → n ≡ 1 → ground_atom_at table s ≡ connective_clause_at table test sign n s
-  negation_one e h = rw (e, h)
-
-  module _ (every : Bool) (is : sign ≡ Junction every) where
-    pub junction_all : every ≡ true → false ≡ connective_clause_at table test sign n s
-    junction_all e = rw (is, e)
-
-    pub junction-none : every ≡ false → n ≡ 0 → false ≡ connective_clause_at table test sign n s
-    junction-none e h = rw (is, e, h)
-
-    pub junction_some : every ≡ false → (n ≡ 0 → ⊥) → (b : Bool) → b ≡ all_at test n s → b ≡ connective_clause_at table test sign n s
-    junction_some e h b so = rw (is, e, ne_eqb n 0 h) so
-
-pub connective_never : (table : Table) (test : List ℕ → Bool) (n : ℕ) (s : List ℕ) (sign other : Sign) → sign ≡ other
-    → connective_clause_at table test other n s ≡ false → false ≡ connective_clause_at table test sign n s
-connective_never table test n s sign other e h = rw e (sym h)
+-- only an atom is one
+pub ground_never : (table : Table) (k : Kind) (s : List ℕ) → ((p n : ℕ) → k ≡ kind.Atom p n → ⊥) → ground_atom_by table k s ≡ false
+ground_never table (kind.Truth b) s h = refl
+ground_never table (kind.Atom p n) s h = absurd (h p n refl)
+ground_never table kind.Equality s h = refl
+ground_never table (kind.Connective o n) s h = refl
+ground_never table (kind.Quantifier every x) s h = refl
+ground_never table kind.Term s h = refl
 
 -- A clause.
 module _ (table : Table) (work : List ℕ) (at levels : ℕ) where
-  pub clause_no_level : levels ≡ 0 → false ≡ clause_at table levels (drop at work)
+  pub clause_no_level : levels ≡ 0 → clause_at table levels (drop at work) ≡ false
   unfolding clause_at
   clause_no_level e = rw e
 
-  pub clause_beyond : length work ≤ at → false ≡ clause_at table levels (drop at work)
+  pub clause_beyond : length work ≤ at → clause_at table levels (drop at work) ≡ false
   unfolding clause_at
   clause_beyond h = rw (drop_of_length-le work h) (pick levels)
     where
-      pick : (l : ℕ) → false ≡ clause_at table l []
+      pick : (l : ℕ) → clause_at table l [] ≡ false
       pick zero = refl
       pick (suc l) = refl
 
-  clause_kind : (k : Kind) → (levels ≡ 0 → ⊥) → at < length work → kind_of (get_or work at 0) ≡ k
-      → clause_at table levels (drop at work) ≡ clause_by table (clause_at table (levels - 1)) k (drop (at + 1) work)
+  pub clause_kind : (levels ≡ 0 → ⊥) → at < length work
+      → clause_at table levels (drop at work) ≡ clause_by table (clause_at table (levels - 1)) (kind_of (get_or work at 0)) (drop (at + 1) work)
   unfolding clause_at
-  clause_kind k some within e = rw (drop-cons work at 0 within, add-one at) (pick levels some)
+  clause_kind some within = rw (drop-cons work at 0 within, add-one at) (pick levels some)
     where
-      pick : (l : ℕ) → (l ≡ 0 → ⊥) → clause_at table l (get_or work at 0 ∷ drop (suc at) work) ≡ clause_by table (clause_at table (l - 1)) k (drop (suc at) work)
+      pick : (l : ℕ) → (l ≡ 0 → ⊥)
+          → clause_at table l (get_or work at 0 ∷ drop (suc at) work) ≡ clause_by table (clause_at table (l - 1)) (kind_of (get_or work at 0)) (drop (suc at) work)
       pick zero h = absurd (h refl)
-      pick (suc l) h = rw (e, sub-one (suc l))
+      pick (suc l) h = rw (sub-one (suc l))
 
-  -- what was told of what stands behind is told of the whole
-  pub clause_told : (levels ≡ 0 → ⊥) → at < length work → (j : Kind) → j ≡ kind_of (get_or work at 0) → (k : Kind) → j ≡ k
-      → (b : Bool) → b ≡ clause_by table (clause_at table (levels - 1)) k (drop (at + 1) work) → b ≡ clause_at table levels (drop at work)
-  clause_told some within j seen k e b so = so ∙ sym (clause_kind k some within (sym seen ∙ e))
+-- only an atom and a connective are one
+pub clause_never : (table : Table) (test : List ℕ → Bool) (k : Kind) (s : List ℕ)
+    → ((p n : ℕ) → k ≡ kind.Atom p n → ⊥) → ((o : Sign) (n : ℕ) → k ≡ kind.Connective o n → ⊥) → clause_by table test k s ≡ false
+clause_never table test (kind.Truth b) s h c = refl
+clause_never table test (kind.Atom p n) s h c = absurd (h p n refl)
+clause_never table test kind.Equality s h c = refl
+clause_never table test (kind.Connective o n) s h c = absurd (c o n refl)
+clause_never table test (kind.Quantifier every x) s h c = refl
+clause_never table test kind.Term s h c = refl
+
+-- what the code's answers follow from
+pub ruleset told = (all_none, all_first, ground_kind, ground_never, clause_no_level, clause_beyond, clause_kind, clause_never)
 
 -- Where the words of a formula stand.
 

@@ -1,29 +1,23 @@
 -- What the code tells of derivation lines: for each list of numbers the place of the first and how many there are.
-use Rattle.std.specs.Prelude.{ℕ, ◌+◌, ◌≤◌, ◌<◌, ◌≡◌, List, [], ◌∷◌, false, length, drop}
-use Rattle.grammar.specs.Bytes.{Bytes, bytes, begins}
-use Rattle.grammar.specs.Outcome.{Outcome, refused}
-use Rattle.grammar.specs.Reading.{Reading, give, ◌⇒◌, one_of, separated}
+use Rattle.std.specs.Prelude.{ℕ, ◌+◌, ◌≤◌, ◌<◌, ◌≡◌, List, [], ◌∷◌, map, Option, Some, None}
+use Rattle.std.specs.Borrow.{Bor}
+use Rattle.grammar.specs.Bytes.{Bytes, bytes}
+use Rattle.grammar.specs.Reading.{Reading, give, refuse, ◌⇒◌, one_of, separated}
 use Rattle.grammar.specs.Derivation.{Position, Rule, SNAND, SNOR, STN, EPRED, EPROP, IQ, RuleLine, rewrite, unsat, trivial, splitc, Line, step, footer}
-use Rattle.grammar.specs.Derivation.{read_ranged, read_formula_name, read_position, at_position, read_split, read_footer, read_line, read_version, read_grounder}
-use Rattle.text.specs.memory.Found.{Found, Taken, Refused, WordFound}
-use Rattle.text.specs.memory.Numbers.{number_at, number_end, numbers_at}
-use Rattle.text.specs.declared.byte.Ended.{Ended}
-use Rattle.text.specs.declared.byte.Ended.TheVariants as ended
+use Rattle.grammar.specs.Derivation.{read_formula_name, at_position, read_split, read_footer, line_kinds}
+use Rattle.text.specs.memory.Numbers.{numbers_at}
+use Rattle.text.specs.declared.number.Numbers.{Numbers}
 use Rattle.derivation.specs.declared.rule_line.Rule.{Rule as RuleName}
 use Rattle.derivation.specs.declared.rule_line.Rule.TheVariants.{Snand, Snor, Stn, Epred, Eprop, Iq}
-use Rattle.derivation.specs.declared.rule_line.RangedRead.{RangedRead}
-use Rattle.derivation.specs.declared.rule_line.RangedRead.TheVariants as ranged
-use Rattle.derivation.specs.declared.rule_line.NumbersRead.{NumbersRead}
-use Rattle.derivation.specs.declared.rule_line.NumbersRead.TheVariants as numbers
-use Rattle.derivation.specs.declared.rule_line.PositionRead.{PositionRead}
-use Rattle.derivation.specs.declared.rule_line.PositionRead.TheVariants as position
+use Rattle.derivation.specs.declared.rule_line.Position.{Position as PositionRead}
 use Rattle.derivation.specs.declared.rule_line.AtPosition.{AtPosition}
 use Rattle.derivation.specs.declared.rule_line.AtPosition.TheVariants as made
-use Rattle.derivation.specs.declared.rule_line.LineKind.{LineKind}
-use Rattle.derivation.specs.declared.rule_line.LineKind.TheVariants as kind
-use Rattle.derivation.specs.declared.rule_line.LineRead.{LineRead}
-use Rattle.derivation.specs.declared.rule_line.LineRead.TheVariants as line
-use Rattle.derivation.specs.declared.reader.Numbered.{Numbered}
+use Rattle.derivation.specs.declared.rule_line.Kind.{Kind}
+use Rattle.derivation.specs.declared.rule_line.Kind.TheVariants as kind
+use Rattle.derivation.specs.declared.rule_line.RuleLine.{RuleLine as RuleLineRead}
+use Rattle.derivation.specs.declared.rule_line.RuleLine.TheVariants as rule_line
+use Rattle.derivation.specs.declared.rule_line.Line.{Line as LineRead}
+use Rattle.derivation.specs.declared.rule_line.Line.TheVariants as line
 
 abbrev pub rule_of : RuleName → Rule
 rule_of Snand = SNAND
@@ -39,94 +33,60 @@ make_of (made.Rewrite rule) = rewrite (rule_of rule)
 make_of made.Unsat = unsat
 make_of made.Trivial = trivial
 
-abbrev pub position_at : Bytes → ℕ → ℕ → ℕ → Position
-position_at text name path steps = record { name = name; path = numbers_at text path steps }
+-- What the code's values stand for, by the text that their numbers stand in.
+
+abbrev pub numbers_in : Bytes → Numbers → List ℕ
+numbers_in text n = numbers_at text n.at n.many
+
+abbrev pub position_in : Bytes → PositionRead → Position
+position_in text p = record { name = p.name; path = numbers_in text p.path }
+
+abbrev pub rule_line_in : Bytes → RuleLineRead → RuleLine
+rule_line_in text (rule_line.Rewrite rule p) = rewrite (rule_of rule) (position_in text p)
+rule_line_in text (rule_line.Unsat p) = unsat (position_in text p)
+rule_line_in text (rule_line.Trivial p) = trivial (position_in text p)
+rule_line_in text (rule_line.Splitc p names) = splitc (position_in text p) (numbers_in text names)
+
+abbrev pub line_in : Bytes → LineRead → Line
+line_in text (line.Step l) = step (rule_line_in text l)
+line_in text (line.Footer names) = footer (numbers_in text names)
+
+-- Each number takes a byte at least: the numbers of a line stand before the place behind it.
+
+abbrev pub NumbersBefore : Numbers → ℕ → Type 0
+NumbersBefore n next = n.at + n.many ≤ next
+
+abbrev pub RuleLineBefore : RuleLineRead → ℕ → Type 0
+RuleLineBefore (rule_line.Rewrite rule p) next = NumbersBefore p.path next
+RuleLineBefore (rule_line.Unsat p) next = NumbersBefore p.path next
+RuleLineBefore (rule_line.Trivial p) next = NumbersBefore p.path next
+RuleLineBefore (rule_line.Splitc p names) next = NumbersBefore p.path next × NumbersBefore names next
+
+abbrev pub LineBefore : LineRead → ℕ → Type 0
+LineBefore (line.Step l) next = RuleLineBefore l next
+LineBefore (line.Footer names) next = NumbersBefore names next
+
+-- The kinds of a line.
+
+-- what is read behind a kind's word
+abbrev pub reader_of : Kind → Reading Line
+reader_of (kind.At make) = at_position (make_of make)
+reader_of kind.Splitc = read_split
+reader_of kind.Footer = read_footer
+
+-- a kind with its word, as a reader by that word
+abbrev pub entry_of : Bor Bytes × Kind → Bytes × Reading (Reading Line)
+entry_of k = k.0.now ⇒ give (reader_of k.1)
+
+-- the word alone, and what is to be read behind it
+unfoldable pub read_kind : Reading (Reading Line)
+read_kind = one_of (map (λ k. k.0 ⇒ give k.1) line_kinds) (refuse 10)
 
 -- the footer's names
 abbrev pub read_final_names : Reading (List ℕ)
 read_final_names = one_of (bytes "-" ⇒ give [] ∷ []) (separated 44 read_formula_name)
 
--- a word stands there, or it does not
-abbrev pub ToldWord : Bytes → Bytes → ℕ → Ended → Type 0
-ToldWord w text at (ended.At next) = WordFound w text at next
-ToldWord w text at ended.Malformed = begins w (drop at text) ≡ false
-
--- something is read
-pub record EndFound {A : Type 0} (reader : Reading A) (text : Bytes) (at next : ℕ) : Type 0 where
-  pub thing : A
-  pub taken : Taken reader text at thing next
-
-abbrev pub ToldEnd : {A : Type 0} → Reading A → Bytes → ℕ → Ended → Type 0
-ToldEnd reader text at (ended.At next) = EndFound reader text at next
-ToldEnd reader text at ended.Malformed = Refused 10 reader text at
-
--- a number of a range is read
-pub record RangedFound (least greatest : ℕ) (text : Bytes) (at number next : ℕ) : Type 0 where
-  pub found : Found (read_ranged least greatest) text at number next
-  pub stands : number ≡ number_at text at
-  pub ends : next ≡ number_end text at
-  pub after : at < next
-
-abbrev pub ToldRanged : ℕ → ℕ → Bytes → ℕ → RangedRead → Type 0
-ToldRanged least greatest text at (ranged.Value number next) = RangedFound least greatest text at number next
-ToldRanged least greatest text at ranged.Malformed = Refused 10 (read_ranged least greatest) text at
-
--- numbers are read
-pub record NumbersFound (reader : Reading (List ℕ)) (text : Bytes) (at first many next : ℕ) : Type 0 where
-  pub found : Found reader text at (numbers_at text first many) next
-  pub few : first + many ≤ next
-
-abbrev pub ToldNumbers : Reading (List ℕ) → Bytes → ℕ → NumbersRead → Type 0
-ToldNumbers reader text at (numbers.Numbers first many next) = NumbersFound reader text at first many next
-ToldNumbers reader text at numbers.Malformed = Refused 10 reader text at
-
--- a position is read
-pub record PositionFound (text : Bytes) (at name path steps next : ℕ) : Type 0 where
-  pub found : Found read_position text at (position_at text name path steps) next
-  pub few : path + steps ≤ next
-
-abbrev pub ToldPosition : Bytes → ℕ → PositionRead → Type 0
-ToldPosition text at (position.Position name path steps next) = PositionFound text at name path steps next
-ToldPosition text at position.Malformed = Refused 10 read_position text at
-
-abbrev pub ToldLine : Reading Line → Bytes → ℕ → LineRead → Type 0
-ToldLine reader text at (line.Heading next) = ⊥
-ToldLine reader text at (line.Position kind name path steps next) =
-    Taken reader text at (step (make_of kind (position_at text name path steps))) next × (path + steps ≤ next)
-ToldLine reader text at (line.Split name path steps names many next) =
-    Taken reader text at (step (splitc (position_at text name path steps) (numbers_at text names many))) next
-    × ((path + steps ≤ next) × (names + many ≤ next))
-ToldLine reader text at (line.Footer names many next) = Taken reader text at (footer (numbers_at text names many)) next × (names + many ≤ next)
-ToldLine reader text at line.Malformed = Refused 10 reader text at
-
--- a line of the heading is read
-abbrev pub heading_of : Ended → LineRead
-heading_of (ended.At next) = line.Heading next
-heading_of ended.Malformed = line.Malformed
-
-abbrev pub ToldHeading : {A : Type 0} → Reading A → Bytes → ℕ → LineRead → Type 0
-ToldHeading reader text at r = (e : Ended) × (ToldEnd reader text at e × (r ≡ heading_of e))
-
--- the version is line 1, the grounder line 2; rule lines and the footer follow
-pub record Awaited (text : Bytes) (at number : ℕ) (r : LineRead) : Type 0 where
-  pub version : number ≡ 1 → ToldHeading read_version text at r
-  pub grounder : number ≡ 2 → ToldHeading read_grounder text at r
-  pub rule : 3 ≤ number → ToldLine read_line text at r
-
--- a line is read under its number
-pub record ToldNumbered (text : Bytes) (at number : ℕ) (r : Numbered) : Type 0 where
-  pub told : Awaited text at number r.read
-  pub numbered : r.line ≡ number
-
--- the outcome is what another reader makes of the text from a later place on
-pub record Behind (outcome : Outcome ℕ (Line × Bytes)) (reader : Reading Line) (text : Bytes) (at next : ℕ) : Type 0 where
-  pub is : outcome ≡ reader (drop next text)
-  pub after : at < next
-  pub within : next ≤ length text
-
--- the kind of a line is told by its word, and what follows is read as that kind
-abbrev pub ToldKind : Outcome ℕ (Line × Bytes) → Bytes → ℕ → LineKind → Type 0
-ToldKind outcome text at (kind.Position make next) = Behind outcome (at_position (make_of make)) text at next
-ToldKind outcome text at (kind.Split next) = Behind outcome read_split text at next
-ToldKind outcome text at (kind.Footer next) = Behind outcome read_footer text at next
-ToldKind outcome text at kind.Unknown = outcome ≡ refused 10
+-- A reader, by its place and its line's number: behind a line that it reads the next has the next number, and where none is read it stays.
+abbrev pub MovesOn : {T : Type 0} → Option T → ℕ → ℕ → ℕ → ℕ → Type 0
+MovesOn None at next line counted = (next ≡ at) × (counted ≡ line)
+MovesOn (Some value) at next line counted = (at < next) × (counted ≡ line + 1)

@@ -4,6 +4,7 @@ use Prim.Native.Nat.{ℕ, suc, ◌%◌, ◌≤◌}
 use native.Mathlib.Omega.{arith}
 use mathlib.Core.Path.{◌≡◌, refl, sym, ap, ◌∙◌}
 use mathlib.Core.List.{List, [], ◌++◌, append_assoc}
+use Rattle.std.specs.Prelude.{Option, Some, None}
 use mathlib.Core.Bool.{Bool, true, false, cond, not, ◌&&◌, and-true}
 use borrow.Author.Tests.{ne_eqb, lt-ltb}
 use lib.Dec.{eqb, ltb}
@@ -54,11 +55,11 @@ pub record QuantifierFits (P : Problem) (f : Formula) (made : Outcome ℕ Formul
   pub makes : made ≡ cond (closed_but name guard) (done (instantiated P side name guard body)) (refused 14)
 
 -- what a rule makes of a formula, as it is decided
-abbrev pub Told : Problem → Formula → Outcome ℕ Formula → Fit → Type 0
-Told P f made (fit.Value b) = made ≡ done (truth b)
-Told P f made (fit.Junction every) = JunctionFits f every made
-Told P f made fit.Quantifier = QuantifierFits P f made
-Told P f made fit.Misfit = made ≡ refused 13
+abbrev pub Told : Problem → Formula → Outcome ℕ Formula → Option Fit → Type 0
+Told P f made (Some (fit.Value b)) = made ≡ done (truth b)
+Told P f made (Some (fit.Junction every)) = JunctionFits f every made
+Told P f made (Some fit.Quantifier) = QuantifierFits P f made
+Told P f made None = made ≡ refused 13
 
 module _ (N : Naming) where
   abbrev first_kind : Formula → Kind
@@ -150,7 +151,7 @@ module _ (N : Naming) (text : Bytes) (table : Table) (rows : List ℕ) (inside :
 
       pick : (i : Bool) → is_input P p ≡ i
           → Told P (atom p ts) (cond (i && elements_only ts) (done (truth value)) (refused 13))
-          (cond i (value_fit table rows (term_count ts) (words_in N (atom p ts) ++ s)) fit.Misfit)
+          (cond i (value_fit table rows (term_count ts) (words_in N (atom p ts) ++ s)) None)
       pick true i =
           value-told (atom p ts) (term_count ts) s (elements_only ts) value (elements-words N ts s)
           (λ e. sym (value-words N text table rows inside valid index (atom p ts) 1 s (replicate 64 0) nowhere storable (omega arith) k i (matches_nowhere N) (λ x. omega arith)))

@@ -6,11 +6,15 @@ use native.Mathlib.Numerals.{add-one, sub-one}
 use native.Mathlib.Omega.{arith}
 use mathlib.Core.Path.{◌≡◌, refl, sym, ap}
 use mathlib.Core.List.{List, [], ◌∷◌, ◌++◌, append-nil}
-use mathlib.Core.Bool.{Bool, true, false, cond}
-use borrow.Author.Tests.{eq-eqb, ne_eqb}
+use mathlib.Core.Bool.{Bool, true, false, cond, ◌&&◌, ◌||◌}
+use borrow.Author.Tests.{ne_eqb}
+use Rattle.std.specs.List.{count_by}
+use Rattle.std.proofs.lemmas.List.Sums.{count_by-le-length}
+use Rattle.std.proofs.lemmas.List.Recursion.{is_count_by}
 use lib.Dec.{eqb}
-use lib.ListN.{length, get_or, take, length-append, length-take, length-drop}
-use lib.Seq.{slice, slice_empty, slice-cons, drop-drop}
+use lib.ListN.{length, get_or, take, drop, length-append, length-take, length-drop}
+use lib.Seq.{slice, slice_empty, slice-cons, drop-cons, drop-drop}
+use Rattle.std.proofs.lemmas.List.{drop_all}
 use Rattle.logic.specs.Formula.{junction}
 use Rattle.words.specs.memory.Kinds.{kind_of, part_count, skip}
 use Rattle.words.specs.memory.Words.{connective_tag}
@@ -19,47 +23,18 @@ use Rattle.words.specs.memory.Storing.{Stores}
 use Rattle.words.proofs.memory.Storing.{Ahead, ahead_start, ahead_turn, ahead_end, ahead_slice}
 use Rattle.formula.specs.memory.Instances.{word_with, held_after, words_with, copies, set_count, instantiated_words}
 
--- One word.
+-- One word, by the tests of the code.
 
-module _ (x v held word : ℕ) where
-  pub with_held : 0 < held → word ≡ word_with x v held word
-  unfolding word_with
-  with_held h = pick held h
-    where
-      pick : (k : ℕ) → 0 < k → word ≡ word_with x v k word
-      pick zero h = absurd (omega arith)
-      pick (suc k) h = refl
+pub word_with_tested : (x v held word : ℕ) → word_with x v held word ≡ cond (eqb held 0 && eqb word (x * 16 + 13)) (v * 16 + 12) word
+unfolding word_with
+word_with_tested x v zero word = refl
+word_with_tested x v (suc held) word = rw (ne_eqb (suc held) 0 (λ e. omega arith))
 
-  pub with_element : held ≡ 0 → word ≡ x * 16 + 13 → v * 16 + 12 ≡ word_with x v held word
-  unfolding word_with
-  with_element h e = rw (h, eq-eqb word (x * 16 + 13) e)
-
-  pub with_other : held ≡ 0 → (word ≡ x * 16 + 13 → ⊥) → word ≡ word_with x v held word
-  unfolding word_with
-  with_other h e = rw (h, ne_eqb word (x * 16 + 13) e)
-
-module _ (x held word : ℕ) where
-  pub after-held : 0 < held → held - 1 + part_count (kind_of word) ≡ held_after x held word
-  unfolding held_after
-  after-held h = pick held h
-    where
-      pick : (k : ℕ) → 0 < k → k - 1 + part_count (kind_of word) ≡ held_after x k word
-      pick zero h = absurd (omega arith)
-      pick (suc k) h = rw (sub-one (suc k))
-
-  module _ (free : held ≡ 0) where
-    pub after_all : word ≡ x * 16 + 8 → 2 ≡ held_after x held word
-    unfolding held_after
-    after_all e = rw (free, eq-eqb word (x * 16 + 8) e)
-
-    module _ (other : word ≡ x * 16 + 8 → ⊥) where
-      pub after_any : word ≡ x * 16 + 9 → 2 ≡ held_after x held word
-      unfolding held_after
-      after_any e = rw (free, ne_eqb word (x * 16 + 8) other, eq-eqb word (x * 16 + 9) e)
-
-      pub after_none : (word ≡ x * 16 + 9 → ⊥) → 0 ≡ held_after x held word
-      unfolding held_after
-      after_none e = rw (free, ne_eqb word (x * 16 + 8) other, ne_eqb word (x * 16 + 9) e)
+pub held_after_tested : (x held word : ℕ)
+    → held_after x held word ≡ cond (eqb held 0) (cond (eqb word (x * 16 + 8) || eqb word (x * 16 + 9)) 2 0) (held - 1 + part_count (kind_of word))
+unfolding held_after
+held_after_tested x zero word = refl
+held_after_tested x (suc held) word = rw (ne_eqb (suc held) 0 (λ e. omega arith), sub-one (suc held))
 
 -- The words of a copy.
 
@@ -78,30 +53,29 @@ unfolding words_with
 length-words_with x v [] held = refl
 length-words_with x v (word ∷ s) held = ap suc (length-words_with x v s (held_after x held word))
 
--- The elements, whose flags are the first of a list.
+-- The elements, by their flags.
 
-module _ (flags : List Bool) (count i : ℕ) where
-  module _ (within : i < count) (enough : count ≤ length flags) where
-    pub copies-next : (x : ℕ) (s : List ℕ)
-        → copies (slice i count flags) x s (i + 1) ≡ cond (get_or flags i false) (words_with x (i + 1) s 0) [] ++ copies (slice (i + 1) count flags) x s (i + 1 + 1)
-    unfolding copies
-    copies-next x s = rw (slice-cons i count flags false within enough, add-one (i + 1), add-one i)
-
-    pub set_count-set : get_or flags i false ≡ true → set_count (slice i count flags) ≡ 1 + set_count (slice (i + 1) count flags)
-    unfolding set_count
-    set_count-set e = rw (slice-cons i count flags false within enough, add-one i, e)
-
-    pub set_count_unset : get_or flags i false ≡ false → set_count (slice i count flags) ≡ set_count (slice (i + 1) count flags)
-    unfolding set_count
-    set_count_unset e = rw (slice-cons i count flags false within enough, add-one i, e) (zero-add _)
-
-  pub copies-none : (x : ℕ) (s : List ℕ) (v : ℕ) → i ≡ count → copies (slice i count flags) x s v ≡ []
+module _ (flags : List Bool) (i : ℕ) (x : ℕ) (s : List ℕ) where
+  pub copies-next : i < length flags
+      → copies (drop i flags) x s (i + 1) ≡ cond (get_or flags i false) (words_with x (i + 1) s 0) [] ++ copies (drop (i + 1) flags) x s (i + 1 + 1)
   unfolding copies
-  copies-none x s v e = rw (e, slice_empty count flags)
+  copies-next h = rw (drop-cons flags i false h, add-one (i + 1), add-one i)
 
-  pub set_count-none : i ≡ count → set_count (slice i count flags) ≡ 0
-  unfolding set_count
-  set_count-none e = rw (e, slice_empty count flags)
+  pub copies-none : length flags ≤ i → copies (drop i flags) x s (i + 1) ≡ []
+  unfolding copies
+  copies-none h = rw (drop_all i flags h)
+
+-- as the library counts
+pub set_count_by : (flags : List Bool) → set_count flags ≡ count_by (λ set. set) flags
+unfolding set_count
+set_count_by flags = is_count_by set_count (λ set. set) refl pick flags
+  where
+    pick : (set : Bool) (flags : List Bool) → set_count (set ∷ flags) ≡ cond set (1 + set_count flags) (set_count flags)
+    pick true flags = refl
+    pick false flags = zero-add _
+
+pub set_count_few : (flags : List Bool) → set_count flags ≤ length flags
+set_count_few flags = rw (set_count_by flags) (count_by-le-length (λ set. set) flags)
 
 pub length-copies : (flags : List Bool) (x : ℕ) (s : List ℕ) (v : ℕ) → length s ≤ 16384 → length (copies flags x s v) ≤ length flags * 16384
 unfolding copies
@@ -114,11 +88,11 @@ length-copies (chosen ∷ flags) x s v h = rw length-append (pick chosen (length
     pick false k = omega arith
 
 -- the copies of a range of memory
-pub copies-near : (flags : List Bool) (count x : ℕ) (work : List ℕ) (at end v : ℕ) → length work ≤ 16384
-    → length (copies (take count flags) x (slice at end work) v) ≤ count * 16384
-copies-near flags count x work at end v h =
+pub copies-near : (flags : List Bool) (x : ℕ) (work : List ℕ) (at end v : ℕ) → length work ≤ 16384
+    → length (copies flags x (slice at end work) v) ≤ length flags * 16384
+copies-near flags x work at end v h =
     let range : length (slice at end work) ≤ 16384 = simp (length-drop, length-take) (omega arith) in
-    omega (arith, length-copies (take count flags) x (slice at end work) v range, length-take count flags)
+    length-copies flags x (slice at end work) v range
 
 -- what is stored for a quantifier: the connective's word, and the copies of the body from where the guard ends
 module _ {old : List ℕ} (at end body word head : ℕ) (flags : List Bool) {to next : ℕ} {first : List ℕ}
@@ -137,9 +111,9 @@ module _ {old : List ℕ} (at end body word head : ℕ) (flags : List Bool) {to 
       t)
       refl
 
-pub instantiated-near : (word : ℕ) (work : List ℕ) (at end count : ℕ) (flags : List Bool) → length work ≤ 16384
-    → length (instantiated_words word (slice at end work) (take count flags)) ≤ 1 + count * 16384
+pub instantiated-near : (word : ℕ) (work : List ℕ) (at end : ℕ) (flags : List Bool) → length work ≤ 16384
+    → length (instantiated_words word (slice at end work) flags) ≤ 1 + length flags * 16384
 unfolding instantiated_words
-instantiated-near word work at end count flags h =
+instantiated-near word work at end flags h =
     let rest : length (after_first (slice at end work)) ≤ 16384 = simp (length-drop, length-take) (omega arith) in
-    omega (arith, length-copies (take count flags) (word / 16) (after_first (slice at end work)) 1 rest, length-take count flags)
+    omega (arith, length-copies flags (word / 16) (after_first (slice at end work)) 1 rest)

@@ -4,6 +4,7 @@ use Prim.Native.Nat.{ℕ, ◌+◌, ◌-◌, ◌*◌, ◌/◌, ◌≤◌, ◌<◌
 use native.Mathlib.Omega.{arith}
 use mathlib.Core.Path.{◌≡◌, sym, ap, subst, ◌∙◌}
 use mathlib.Core.List.{List, ◌++◌, map}
+use Rattle.std.specs.Prelude.{Option, Some, None}
 use mathlib.Core.Bool.{Bool, true, false, cond}
 use lib.ListN.{length, get_or, take, drop, length-take, length-drop, length-append}
 use lib.Seq.{slice, length-take-le, take-take, take-append_seam, take-append-add, drop-append_seam, drop-append-add}
@@ -39,20 +40,20 @@ use Rattle.formula.proofs.memory.Instantiated.{instantiated-stands}
 use Rattle.formula.proofs.memory.Decided.{QuantifierFits, Told, rule_told}
 
 -- what is decided takes no more room than memory for each element
-pub decided_near : (decided : Fit) (word : ℕ) (work : List ℕ) (at end count : ℕ) (flags : List Bool) → length work ≤ 16384
-    → length (fit_words decided word (slice at end work) (take count flags)) ≤ 16385 + count * 16384
-decided_near (fit.Value b) word work at end count flags h = omega arith
-decided_near (fit.Junction every) word work at end count flags h =
+pub decided_near : (decided : Option Fit) (word : ℕ) (work : List ℕ) (at end : ℕ) (flags : List Bool) → length work ≤ 16384
+    → length (fit_words decided word (slice at end work) flags) ≤ 16385 + length flags * 16384
+decided_near (Some (fit.Value b)) word work at end flags h = omega arith
+decided_near (Some (fit.Junction every)) word work at end flags h =
     let l : length (slice at end work) ≤ 16384 = simp (length-drop, length-take) (omega arith) in
     omega (arith, simplified-near every (word / 16) (slice at end work))
-decided_near fit.Quantifier word work at end count flags h = omega (arith, instantiated-near word work at end count flags h)
-decided_near fit.Misfit word work at end count flags h =
+decided_near (Some fit.Quantifier) word work at end flags h = omega (arith, instantiated-near word work at end flags h)
+decided_near None word work at end flags h =
     let l : length (slice at end work) ≤ 16384 = simp (length-drop, length-take) (omega arith) in
     omega arith
 
 -- the formula stands as it stood while what precedes it was copied
 pub decided_kept : {old : List ℕ} {to : ℕ} {whole work : List ℕ} {place : ℕ} {rest : List ℕ} → Ahead old to whole work place rest
-    → (decided : Fit) (at end : ℕ) (flags : List Bool) {next : ℕ} {later : List ℕ} → at < to → end ≤ to
+    → (decided : Option Fit) (at end : ℕ) (flags : List Bool) {next : ℕ} {later : List ℕ} → at < to → end ≤ to
     → Stores work place (fit_words decided (get_or work at 0) (slice (at + 1) end work) flags) next later
     → Stores work place (fit_words decided (get_or old at 0) (slice (at + 1) end old) flags) next later
 decided_kept a decided at end flags h k s = rw (ahead_read a at h, ahead_slice a (at + 1) end k) at s
@@ -65,7 +66,7 @@ module _ (old : List ℕ) (at full to : ℕ) (p : Standing old at full to) (end 
       omega arith
 
   -- what is stored for a decision
-  pub stored_as : (flags : List Bool) (decided : Fit) {work : List ℕ} {total : ℕ}
+  pub stored_as : (flags : List Bool) (decided : Option Fit) {work : List ℕ} {total : ℕ}
       → Rewritten old at end full to (fit_words decided (get_or old at 0) (slice (at + 1) end old) flags) total work
       → Rewritten old at (end_within old at full) full to (rewritten_words decided old at full flags) total work
   unfolding rewritten_words
@@ -119,15 +120,15 @@ module _ (N : Naming) (text : Bytes) (table : Table) (rows : List ℕ) (inside :
             (admitted t.side t.name t.guard t.body t.is))
         pick false e = let z : ◌≡◌ {A = ℕ} 0 1 = cc in absurd (omega arith)
 
-    fit_words_lem : (decided : Fit) → Told P f (done h) decided → fit_words decided (get_or old at 0) (slice (at + 1) (at + size f) old) flags ≡ words_in N h
+    fit_words_lem : (decided : Option Fit) → Told P f (done h) decided → fit_words decided (get_or old at 0) (slice (at + 1) (at + size f) old) flags ≡ words_in N h
     unfolding words
-    fit_words_lem (fit.Value b) told = let same : truth b ≡ h = cc in rw (← same)
-    fit_words_lem (fit.Junction every) told =
+    fit_words_lem (Some (fit.Value b)) told = let same : truth b ≡ h = cc in rw (← same)
+    fit_words_lem (Some (fit.Junction every)) told =
         let same : simplified told.side told.parts ≡ h = cc in
         rw (← told.sided, ← same)
         (simplified-stands N told.side told.parts old at (at + size f) rest (rw told.is at stands) (rw told.is))
-    fit_words_lem fit.Quantifier told = instantiated-fits told
-    fit_words_lem fit.Misfit told = let z : ◌≡◌ {A = ℕ} 0 1 = cc in absurd (omega arith)
+    fit_words_lem (Some fit.Quantifier) told = instantiated-fits told
+    fit_words_lem None told = let z : ◌≡◌ {A = ℕ} 0 1 = cc in absurd (omega arith)
 
     -- what is stored for a rule that makes h of f is the words of h
     pub rule-words : (rule : Rule) → apply P (rule_of rule) f ≡ done h → rewritten_words (rule_fit table rows rule (drop at old)) old at full flags ≡ words_in N h

@@ -1,12 +1,12 @@
 -- SNAND and SNOR in memory: a turn of the loops over a connective's parts, and what is left of the connective.
 -- Assumes nothing.
-use Prim.Native.Nat.{ℕ, zero, suc, ◌+◌, ◌-◌, ◌*◌, ◌≤◌, ◌<◌}
+use Prim.Native.Nat.{ℕ, zero, suc, ◌+◌, ◌*◌, ◌≤◌}
 use native.Mathlib.Nat.{zero-add}
-use native.Mathlib.Numerals.{sub-one}
+use native.Mathlib.Numerals.{add-one}
 use native.Mathlib.Omega.{arith}
 use mathlib.Core.Path.{◌≡◌, refl, sym, ap, ◌∙◌}
 use mathlib.Core.List.{List, [], ◌∷◌, ◌++◌, append-nil}
-use mathlib.Core.Bool.{Bool, true, false, cond, not}
+use mathlib.Core.Bool.{Bool, true, false, cond}
 use borrow.Author.Tests.{eq-eqb, ne_eqb}
 use lib.Dec.{eqb}
 use lib.ListN.{length, get_or, take, drop, length-append, length-take, length-drop}
@@ -25,20 +25,15 @@ use Rattle.formula.specs.declared.simplify.Simplified.TheVariants.{Value, Parts}
 
 -- One part more.
 
-module _ (b : Bool) (work : List ℕ) (i n : ℕ) (more : 0 < n) where
-  truth_count-next : truth_count b n (drop i work) ≡ cond (eqb (get_or work i 0) (truth_word b)) 1 0 + truth_count b (n - 1) (drop (i + skip (drop i work) 1) work)
+module _ (b : Bool) (work : List ℕ) (i n rest : ℕ) (more : n ≡ rest + 1) where
+  truth_count-next : truth_count b n (drop i work) ≡ cond (eqb (get_or work i 0) (truth_word b)) 1 0 + truth_count b rest (drop (i + skip (drop i work) 1) work)
   unfolding truth_count
-  truth_count-next = pick n more
-    where
-      pick : (n : ℕ) → 0 < n
-          → truth_count b n (drop i work) ≡ cond (eqb (get_or work i 0) (truth_word b)) 1 0 + truth_count b (n - 1) (drop (i + skip (drop i work) 1) work)
-      pick zero h = absurd (omega arith)
-      pick (suc n) h = rw (sub-one (suc n), next-within work i, drop-drop (skip (drop i work) 1) i work)
+  truth_count-next = rw (more, add-one, next-within work i, drop-drop (skip (drop i work) 1) i work)
 
-  pub truth_count-found : get_or work i 0 ≡ truth_word b → truth_count b n (drop i work) ≡ 1 + truth_count b (n - 1) (drop (i + skip (drop i work) 1) work)
+  pub truth_count-found : get_or work i 0 ≡ truth_word b → truth_count b n (drop i work) ≡ 1 + truth_count b rest (drop (i + skip (drop i work) 1) work)
   truth_count-found e = truth_count-next ∙ rw (eq-eqb (get_or work i 0) (truth_word b) e)
 
-  pub truth_count_other : (get_or work i 0 ≡ truth_word b → ⊥) → truth_count b n (drop i work) ≡ truth_count b (n - 1) (drop (i + skip (drop i work) 1) work)
+  pub truth_count_other : (get_or work i 0 ≡ truth_word b → ⊥) → truth_count b n (drop i work) ≡ truth_count b rest (drop (i + skip (drop i work) 1) work)
   truth_count_other e = truth_count-next ∙ rw (ne_eqb (get_or work i 0) (truth_word b) e) (zero-add _)
 
 pub truth_count-none : (b : Bool) (s : List ℕ) (n : ℕ) → n ≡ 0 → truth_count b n s ≡ 0
@@ -46,11 +41,11 @@ unfolding truth_count
 truth_count-none b s n e = rw e
 
 -- `next` is the place after the first formula of the range from i to `end`
-module _ (b : Bool) (work : List ℕ) (i end n next : ℕ) (more : 0 < n) (past : next ≡ i + skip (slice i end work) 1) (within : next ≤ end) where
-  pub words_without-next : words_without b n (slice i end work)
-      ≡ cond (eqb (get_or (take end work) i 0) (truth_word b)) [] (slice i next work) ++ words_without b (n - 1) (slice next end work)
+module _ (b : Bool) (work : List ℕ) (i end n rest next : ℕ) (more : n ≡ rest + 1) (past : next ≡ i + skip (slice i end work) 1) (within : next ≤ end) where
+  words_without-next : words_without b n (slice i end work)
+      ≡ cond (eqb (get_or (take end work) i 0) (truth_word b)) [] (slice i next work) ++ words_without b rest (slice next end work)
   unfolding words_without
-  words_without-next = pick n more
+  words_without-next = rw (more, add-one, next-within (take end work) i, ← range, past, drop-drop size i (take end work))
     where
       size : ℕ
       size = skip (slice i end work) 1
@@ -60,10 +55,12 @@ module _ (b : Bool) (work : List ℕ) (i end n next : ℕ) (more : 0 < n) (past 
           rw past
           (sym (drop-take i size (take end work)) ∙ ap (drop i) (take-take (i + size) end work (rw past at within)))
 
-      pick : (n : ℕ) → 0 < n → words_without b n (slice i end work)
-          ≡ cond (eqb (get_or (take end work) i 0) (truth_word b)) [] (slice i next work) ++ words_without b (n - 1) (slice next end work)
-      pick zero h = absurd (omega arith)
-      pick (suc n) h = rw (sub-one (suc n), next-within (take end work) i, ← range, past, drop-drop size i (take end work))
+  pub words_without_dropped : get_or (take end work) i 0 ≡ truth_word b → words_without b n (slice i end work) ≡ words_without b rest (slice next end work)
+  words_without_dropped e = words_without-next ∙ rw (eq-eqb (get_or (take end work) i 0) (truth_word b) e)
+
+  pub words_without-kept : (get_or (take end work) i 0 ≡ truth_word b → ⊥)
+      → words_without b n (slice i end work) ≡ slice i next work ++ words_without b rest (slice next end work)
+  words_without-kept e = words_without-next ∙ rw (ne_eqb (get_or (take end work) i 0) (truth_word b) e)
 
 pub words_without-none : (b : Bool) (s : List ℕ) (n : ℕ) → n ≡ 0 → words_without b n s ≡ []
 unfolding words_without
@@ -80,22 +77,6 @@ length-words_without b (suc n) s = rw length-append (pick (starts_truth b s) (le
     pick : (d : Bool) → rest ≤ length (after_first s) → length (cond d [] (take (skip s 1) s)) + rest ≤ length s
     pick true h = omega (arith, length-drop (skip s 1) s)
     pick false h = omega (arith, length-drop (skip s 1) s, length-take (skip s 1) s)
-
--- What is left.
-
-module _ (every : Bool) (n : ℕ) (s : List ℕ) where
-  pub decided : 0 < truth_count (not every) n s → Value (not every) ≡ simplification every n s
-  unfolding simplification
-  decided h = rw (ne_eqb (truth_count (not every) n s) 0 (λ e. omega arith))
-
-  module _ (undecided : truth_count (not every) n s ≡ 0) where
-    pub emptied : n - truth_count every n s ≡ 0 → Value every ≡ simplification every n s
-    unfolding simplification
-    emptied e = rw (eq-eqb (truth_count (not every) n s) 0 undecided, eq-eqb (n - truth_count every n s) 0 e)
-
-    pub reduced : (n - truth_count every n s ≡ 0 → ⊥) → Parts (n - truth_count every n s) ≡ simplification every n s
-    unfolding simplification
-    reduced e = rw (eq-eqb (truth_count (not every) n s) 0 undecided, ne_eqb (n - truth_count every n s) 0 e)
 
 -- What is stored.
 

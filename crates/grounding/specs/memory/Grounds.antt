@@ -1,5 +1,6 @@
 -- What the code tells at the end: the ground theory.
-use Rattle.std.specs.Prelude.{ℕ, zero, suc, ◌+◌, ◌≡◌, List, false, length, take}
+use Rattle.std.specs.Prelude.{ℕ, zero, suc, ◌+◌, ◌≡◌, List, Result, Ok, Err, ⊤, false, length, take}
+use Rattle.std.specs.Borrow.{MutBor}
 use Rattle.grammar.specs.Bytes.{Bytes}
 use Rattle.grammar.specs.Outcome.{done, refused, ◌>>=◌}
 use Rattle.grammar.specs.Lines.{Judged, refusal}
@@ -8,31 +9,32 @@ use Rattle.demands.specs.Replay.{Replayed, derivation_from}
 use Rattle.demands.specs.Ground.{Ground, ground_text}
 use Rattle.table.specs.declared.table.Table.{Table}
 use Rattle.printing.specs.memory.ClauseText.{clause_lines}
+use Rattle.theory.specs.declared.theory_reader.Theory.{Theory}
+use Rattle.steps.specs.memory.Fault.{number}
 use Rattle.steps.specs.memory.Held.{Held, held, stepped_in, end_in}
-use Rattle.steps.specs.memory.Steps.{rows_in, held_in, Few}
-use Rattle.steps.specs.declared.live.Live.{Live}
+use Rattle.steps.specs.memory.Steps.{rows_in}
+use Rattle.steps.specs.memory.Memory.{rows_of, held_of}
+use Rattle.steps.specs.declared.fault.Fault.{Fault}
 use Rattle.steps.specs.declared.live.Layout.{Layout}
+use Rattle.steps.specs.declared.memory.Memory.{Memory}
+use Rattle.grounding.specs.memory.Faults.{refusal_of}
 use Rattle.grounding.specs.memory.Lines.{JudgedIn}
+use Rattle.grounding.specs.declared.fault.Refusal.{Refusal}
 use Rattle.grounding.specs.declared.grounding.Grounded.{Grounded}
+use Rattle.grounding.specs.declared.replaying.Refusal.{Refusal as LineRefusal}
 
 -- the ground theory is in memory
-pub record GroundFound (judged : Judged Ground) (problem : Bytes) (r : Grounded) (work : List ℕ) : Type 0 where
+pub record GroundFound (judged : Judged Ground) (problem : Bytes) (g : Grounded) : Type 0 where
   pub ground : Ground
   pub is : judged ≡ done ground
-  pub rules : r.rules ≡ ground.rules
-  pub formulas : r.live.count ≡ length ground.formulas
-  pub text : ground_text ground ≡ clause_lines problem r.table 32 r.live.count (take r.live.full work)
-  pub few : Few r.live
+  pub rules : g.rules ≡ ground.rules
+  pub formulas : g.memory.live.count ≡ length ground.formulas
+  pub text : ground_text ground ≡ clause_lines problem g.table 32 g.memory.live.count (take g.memory.live.full g.memory.work.now)
 
--- by the number: 0 and the ground theory, or a refusal
-pub record GroundTold (judged : Judged Ground) (problem : Bytes) (r : Grounded) (work : List ℕ) : Type 0 where
-  pub accepted : r.number ≡ 0 → GroundFound judged problem r work
-  pub refuses : (r.number ≡ 0 → ⊥) → judged ≡ refused (refusal r.number r.file r.line)
-
--- by the path that was taken: the ground theory, or a refusal
-pub data GroundEither (judged : Judged Ground) (problem : Bytes) (r : Grounded) (work : List ℕ) : Type 0 where
-  found : r.number ≡ 0 → GroundFound judged problem r work → GroundEither judged problem r work
-  stopped : judged ≡ refused (refusal r.number r.file r.line) → GroundEither judged problem r work
+-- the ground theory, or the refusal
+abbrev pub GroundTold : Judged Ground → Bytes → Result Grounded Refusal → Type 0
+GroundTold judged problem (Ok g) = GroundFound judged problem g
+GroundTold judged problem (Err r) = judged ≡ refused (refusal_of r)
 
 -- A derivation with its end, on what memory holds: 10 to 17.
 
@@ -43,19 +45,27 @@ judged_end (suc n) R = refused (refusal (suc n) 3 (R.rules + 3))
 unfoldable pub ended_in : Table → List ℕ → Held → Bytes → JudgedIn
 ended_in table rows m s = derivation_from (stepped_in table rows) m s >>= λ R. judged_end (end_in table R.last R.final) R
 
-pub data EndEither (outcome : JudgedIn) (layout : Layout) (table : Table) (r : Grounded) (work : List ℕ) : Type 0 where
-  ends : r.number ≡ 0 → r.table ≡ table → (final : List ℕ) → outcome ≡ done (record { last = held_in layout r.live work; rules = r.rules; final = final }) → Few r.live
-      → EndEither outcome layout table r work
-  stops : outcome ≡ refused (refusal r.number r.file r.line) → EndEither outcome layout table r work
+-- the end is judged: nothing is wrong with it, or it is refused with a number
+abbrev pub EndJudged : ℕ → Result ⊤ Fault → Type 0
+EndJudged n (Ok _) = n ≡ 0
+EndJudged n (Err fault) = n ≡ number fault
 
--- a refusal as the code has it
-pub record Refuses (number file line : ℕ) (r : Grounded) : Type 0 where
-  pub numbered : r.number ≡ number
-  pub filed : r.file ≡ file
-  pub lined : r.line ≡ line
+-- a derivation comes to the live formulas in memory
+pub record Ended (outcome : JudgedIn) (rules : ℕ) (memory : Memory) : Type 0 where
+  pub final : List ℕ
+  pub is : outcome ≡ done (record { last = held_of memory; rules = rules; final = final })
+
+abbrev pub EndTold : JudgedIn → Result ℕ LineRefusal → Memory → Type 0
+EndTold outcome (Ok rules) memory = Ended outcome rules memory
+EndTold outcome (Err r) memory = outcome ≡ refused (refusal (number r.fault) 3 r.line)
 
 -- the live formulas of a theory that was read: its words at the front, and the names 1, 2, 3 and so on
-pub record FirstNamed (layout : Layout) (count full : ℕ) (old : List ℕ) (live : Live) (work : List ℕ) : Type 0 where
-  pub holds : held_in layout live work ≡ held (take full old) (count_from 1 count) count false
-  pub few : Few live
-  pub rows : rows_in layout work ≡ rows_in layout old
+pub record FirstNamed (layout : Layout) (theory : Theory) (old : List ℕ) (memory : Memory) : Type 0 where
+  pub holds : held_of memory ≡ held (take theory.full old) (count_from 1 theory.count) theory.count false
+  pub rows : rows_of memory ≡ rows_in layout old
+
+-- the numbers that were lent are those that memory holds, as many, and in the same parts
+pub record HeldIn (layout : Layout) (work : MutBor (List ℕ)) (memory : Memory) : Type 0 where
+  pub arranged : memory.layout ≡ layout
+  pub long : length memory.work.now ≡ length work.now
+  pub lent : memory.work.ghost_name ≡ work.ghost_name

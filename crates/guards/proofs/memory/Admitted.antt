@@ -30,17 +30,17 @@ use Rattle.guards.specs.memory.Admitted.{guard_closed, guard_admits, admitted_fl
 use Rattle.guards.proofs.memory.Indexed.{closed_but-words}
 use Rattle.guards.proofs.memory.Evaluated.{map-count_from, admits-words}
 
--- The code's answers.
+-- The quantifier at a place.
 
-module _ (work : List ℕ) (at levels word : ℕ) (here : word ≡ get_or work at 0) where
-  pub closed-here : (b : Bool) → b ≡ closed_at levels (set (replicate 64 false) (word / 16 % 64) true) (drop (at + 1) work) → b ≡ guard_closed levels (drop at work)
+module _ (work : List ℕ) (at levels : ℕ) where
+  pub closed_here : guard_closed levels (drop at work) ≡ closed_at levels (set (replicate 64 false) (get_or work at 0 / 16 % 64) true) (drop (at + 1) work)
   unfolding guard_closed
-  closed-here b e = e ∙ rw (here, next-within work at, ← drop-drop 1 at work)
+  closed_here = rw (next-within work at, ← drop-drop 1 at work)
 
-  pub admits-here : (table : Table) (rows : List ℕ) (v : ℕ) (values : List ℕ) → values ≡ set (replicate 64 0) (word / 16 % 64) v
-      → (b : Bool) → b ≡ true_at table rows levels values (drop (at + 1) work) → b ≡ guard_admits table rows levels (drop at work) v
+  pub admits_here : (table : Table) (rows : List ℕ) (v : ℕ)
+      → guard_admits table rows levels (drop at work) v ≡ true_at table rows levels (set (replicate 64 0) (get_or work at 0 / 16 % 64) v) (drop (at + 1) work)
   unfolding guard_admits
-  admits-here table rows v values with b e = e ∙ rw (with, here, next-within work at, ← drop-drop 1 at work)
+  admits_here table rows v = rw (next-within work at, ← drop-drop 1 at work)
 
 -- Flags one by one, for the elements from i + 1 on.
 
@@ -63,6 +63,8 @@ flags_first g n h =
     let long : length flags ≡ n = length-map (elements_to n) g ∙ length-count_from n 1 in
     let room = length-replicate 64 false in
     rw (sets-eq flags (replicate 64 false) 0 (omega arith)) (take_at flags _ n long)
+
+pub ruleset flags_told = (admits_here, flags_next, flags_none, flags_first)
 
 -- What the definitions say.
 

@@ -8,7 +8,7 @@ use mathlib.Core.List.{List, ◌∷◌, ◌++◌, map}
 use mathlib.Core.Bool.{Bool, true, false, cond}
 use borrow.Author.Tests.{eqb-true, ltb-true}
 use lib.Dec.{eqb, ltb}
-use lib.ListN.{length, get_or, set, replicate, length-replicate, get_or-replicate}
+use lib.ListN.{length, set, replicate, length-replicate, get_or-replicate}
 use Rattle.grammar.specs.Bytes.{Bytes, same}
 use Rattle.grammar.specs.Problem.{Name, Row, Problem, predicates, declared, is_input, given}
 use Rattle.grammar.specs.Valid.{Valid}
@@ -20,7 +20,7 @@ use Rattle.logic.specs.Names.{known, all_known}
 use Rattle.logic.specs.Normal.{mentions_only, all_mention_only, inputs_only}
 use Rattle.logic.specs.Meaning.{Structure, input_structure, Environment, nowhere, bind, value_of, values_of, join_all, connect, guarded, count_from, elements_to, holds, truths}
 use Rattle.logic.specs.Rules.{admits}
-use Rattle.table.specs.memory.Table.{position, table_names, problem_in}
+use Rattle.table.specs.memory.Table.{entry, position, table_names, problem_in}
 use Rattle.table.specs.declared.table.Table.{Table}
 use Rattle.table.proofs.Packing.{Digits}
 use Rattle.table.proofs.Tables.{domain_in, is_input_in, given_in, declared_in}
@@ -118,7 +118,7 @@ module _ (N : Naming) (text : Bytes) (table : Table) (rows : List ℕ) (inside :
   relation_in p row i d digits =
       let at = position p (table_names text table) in
       let input = ltb-true at table.inputs (sym (is_input_in text table rows inside p) ∙ i) in
-      let arity = eqb-true (get_or table.arity at 0) (length row)
+      let arity = eqb-true (entry table at).arity (length row)
       (and_right (ltb at table.count) _ (sym (declared_in text table rows inside p valid (length row)) ∙ d)) in
       rw (index p) (given_in text table rows inside p row input (sym arity) digits)
 

@@ -1,37 +1,29 @@
 -- The value of a formula in memory: what each kind of word comes to, what settles it, and a turn of the loops over parts and over elements.
 -- Assumes nothing.
-use Prim.Native.Nat.{ℕ, zero, suc, ◌+◌, ◌-◌, ◌*◌, ◌/◌, ◌%◌, ◌≤◌, ◌<◌}
+use Prim.Native.Nat.{ℕ, zero, suc, ◌+◌, ◌-◌, ◌*◌, ◌%◌, ◌≤◌, ◌<◌}
 use native.Mathlib.Numerals.{add-one, one-add, sub-one}
 use native.Mathlib.Omega.{arith}
 use mathlib.Core.Path.{◌≡◌, refl, sym, ap, ◌∙◌, fun_ext}
 use mathlib.Core.List.{List, [], ◌∷◌, map}
-use mathlib.Core.Bool.{Bool, true, false, cond, not, ◌&&◌, and-true, or-true, or-false, false≢true}
-use borrow.Author.Tests.{eq-eqb, ne_eqb, eqb-true, eqb-false}
+use mathlib.Core.Bool.{Bool, true, false, cond, not, beq, ◌&&◌, false≢true}
+use borrow.Author.Tests.{eqb-true, eqb-false}
 use lib.Dec.{eqb}
 use lib.ListN.{length, get_or, drop, set, get_or-eq_default}
 use lib.Seq.{drop-drop, get_or-drop, get_or-set_same, get_or-set_other}
 use Rattle.grammar.specs.Problem.{Name}
-use Rattle.grammar.proofs.Laws.{beq_true, beq_false}
-use Rattle.logic.specs.Meaning.{Environment, bind, value_of, values_of, unit, join, join_all, connect, guarded, count_from, elements_to, holds}
+use Rattle.logic.specs.Meaning.{Environment, bind, value_of, values_of, unit, join, join_all, connect, guarded, elements_to, holds}
 use Rattle.text.proofs.Places.{next-within}
 use Rattle.table.specs.memory.Table.{packed}
 use Rattle.table.specs.declared.table.Table.{Table}
 use Rattle.words.specs.memory.Kinds.{kind_of, kind_by, skip}
 use Rattle.words.specs.memory.Stored.{index_name, stored, after_first, side_of, connective_of, term_of, terms_at, parts_by, formula_by, formula_at}
 use Rattle.words.specs.declared.word.Sign.{Sign}
-use Rattle.words.specs.declared.word.Sign.TheVariants as sign
 use Rattle.words.specs.declared.word.Kind.{Kind}
 use Rattle.words.specs.declared.word.Kind.TheVariants as kind
 use Rattle.words.proofs.memory.Kinds.{skip-none, skip_add}
-use Rattle.guards.specs.memory.Values.{valued, settled_by, settled_first, table_structure, atom_at, true_at, truths_at, element_at, each_at}
+use Rattle.guards.specs.memory.Values.{valued, table_structure, atom_at, true_at, truths_at, element_at, each_at}
 
 -- Terms.
-
-pub element-value : (word : ℕ) (values : List ℕ) → word % 16 ≡ 12 → word / 16 % 256 ≡ value_of (valued values) (term_of index_name word)
-element-value word values e = rw (eq-eqb (word % 16) 12 e)
-
-pub variable-value : (word : ℕ) (values : List ℕ) → (word % 16 ≡ 12 → ⊥) → get_or values (word / 16 % 64) 0 ≡ value_of (valued values) (term_of index_name word)
-variable-value word values e = rw (ne_eqb (word % 16) 12 e)
 
 module _ (work : List ℕ) (at : ℕ) (values : List ℕ) where
   -- the number of a row of so many terms, and the value of the term at a place
@@ -82,139 +74,63 @@ pub unit_side : (every : Bool) → unit (side_of every) ≡ every
 unit_side true = refl
 unit_side false = refl
 
-join-settled : (every b r : Bool) → settled_by every b ≡ true → join (side_of every) b r ≡ b
+join-settled : (every b r : Bool) → not (beq b every) ≡ true → join (side_of every) b r ≡ b
 join-settled true true r e = absurd (false≢true e)
 join-settled true false r e = refl
 join-settled false true r e = refl
 join-settled false false r e = absurd (false≢true e)
 
-join_open : (every b r : Bool) → settled_by every b ≡ false → join (side_of every) b r ≡ r
+join_open : (every b r : Bool) → not (beq b every) ≡ false → join (side_of every) b r ≡ r
 join_open true true r e = refl
 join_open true false r e = absurd (false≢true (sym e))
 join_open false true r e = absurd (false≢true (sym e))
 join_open false false r e = refl
 
--- of the connectives that go by two parts
-abbrev is_pair : Sign → Bool
-is_pair sign.Negation = true
-is_pair sign.Implies = true
-is_pair sign.ImpliedBy = true
-is_pair sign.Equivalent = true
-is_pair (sign.Junction every) = false
-
-pair_connects : (o : Sign) (bs : List Bool) → is_pair o ≡ true → connect (connective_of o) (get_or bs 0 false ∷ get_or bs 1 false ∷ []) ≡ connect (connective_of o) bs
-pair_connects sign.Negation bs e = refl
-pair_connects sign.Implies bs e = refl
-pair_connects sign.ImpliedBy bs e = refl
-pair_connects sign.Equivalent bs e = refl
-pair_connects (sign.Junction every) bs e = absurd (false≢true e)
-
-connect-settled : (o : Sign) (a b c : Bool) → settled_first o a ≡ true → connect (connective_of o) (a ∷ b ∷ []) ≡ connect (connective_of o) (a ∷ c ∷ [])
-connect-settled sign.Negation a b c e = refl
-connect-settled sign.Implies true b c e = absurd (false≢true e)
-connect-settled sign.Implies false b c e = refl
-connect-settled sign.ImpliedBy true b c e = or-true (not b) ∙ sym (or-true (not c))
-connect-settled sign.ImpliedBy false b c e = absurd (false≢true e)
-connect-settled sign.Equivalent a b c e = absurd (false≢true e)
-connect-settled (sign.Junction every) a b c e = absurd (false≢true e)
-
--- The value of what has these parts, by what was told of sign and parts.
-module _ (o : Sign) (bs : List Bool) where
-  pub connect_as : (q : Sign) → o ≡ q → (b : Bool) → b ≡ connect (connective_of q) bs → b ≡ connect (connective_of o) bs
-  connect_as q e b is = rw e is
-
-  pub connect_pair : (q : Sign) → o ≡ q → is_pair q ≡ true → (b : Bool) → b ≡ connect (connective_of o) (get_or bs 0 false ∷ get_or bs 1 false ∷ []) → b ≡ connect (connective_of o) bs
-  connect_pair q e pair b is = is ∙ pair_connects o bs (ap is_pair e ∙ pair)
-
-  module _ (first : Bool) (one : first ≡ get_or bs 0 false) where
-    pub two_settled : (settled : Bool) → settled ≡ settled_first o first → settled ≡ true → (other b : Bool) → b ≡ connect (connective_of o) (first ∷ other ∷ [])
-        → b ≡ connect (connective_of o) (get_or bs 0 false ∷ get_or bs 1 false ∷ [])
-    two_settled settled tells e other b is = is ∙ connect-settled o first other (get_or bs 1 false) (sym tells ∙ e) ∙ rw one
-
-    pub two_both : (second : Bool) → second ≡ get_or bs 1 false → (b : Bool) → b ≡ connect (connective_of o) (first ∷ second ∷ [])
-        → b ≡ connect (connective_of o) (get_or bs 0 false ∷ get_or bs 1 false ∷ [])
-    two_both second two b is = is ∙ rw (one, two)
-
--- A connective's value from two parts' values, by its sign and the first value.
-module _ (o : Sign) (a b : Bool) where
-  abbrev of_two : Bool
-  of_two = connect (connective_of o) (a ∷ b ∷ [])
-
-  pub implied_by_true : o ≡ sign.ImpliedBy → a ≡ true → true ≡ of_two
-  implied_by_true e f = rw (e, f) (sym (or-true (not b)))
-
-  pub implied_by_false : o ≡ sign.ImpliedBy → a ≡ false → not b ≡ of_two
-  implied_by_false e f = rw (e, f) (sym (or-false (not b)))
-
-  pub equivalent_true : o ≡ sign.Equivalent → a ≡ true → b ≡ of_two
-  equivalent_true e f = rw (e, f) (beq_true b)
-
-  pub equivalent_false : o ≡ sign.Equivalent → a ≡ false → not b ≡ of_two
-  equivalent_false e f = rw (e, f) (beq_false b)
-
-  pub junction-settled : (every : Bool) → o ≡ sign.Junction every → settled_by every a ≡ true → a ≡ of_two
-  junction-settled every e s = rw e (sym (join-settled every a _ s))
-
-  pub junction_open : (every : Bool) → o ≡ sign.Junction every → settled_by every a ≡ false → b ≡ of_two
-  junction_open every e s = rw e (pick every b ∙ sym (join_open every a _ s))
-    where
-      pick : (every b : Bool) → b ≡ join (side_of every) b (unit (side_of every))
-      pick true b = sym (and-true b)
-      pick false b = sym (or-false b)
-
 module _ (table : Table) (rows : List ℕ) where
-  pub value_no_level : (levels : ℕ) (values s : List ℕ) → levels ≡ 0 → false ≡ true_at table rows levels values s
-  unfolding true_at formula_at holds
-  value_no_level levels values s e = rw e
+  -- The formula at a place: what it comes to where there is none, and by the kind of its first word.
 
-  -- What each kind of word comes to.
-  module _ (work : List ℕ) (at levels : ℕ) (values : List ℕ) (some : levels ≡ 0 → ⊥) where
-    value_kind : (k : Kind) → kind_of (get_or work at 0) ≡ k
-        → true_at table rows levels values (drop at work) ≡ holds (table_structure table rows) (valued values) (formula_by index_name index_name (stored (levels - 1)) k (drop (at + 1) work))
+  abbrev pub value_by : List ℕ → ℕ → Kind → List ℕ → Bool
+  value_by values levels k s = holds (table_structure table rows) (valued values) (formula_by index_name index_name (stored levels) k s)
+
+  module _ (work : List ℕ) (at levels : ℕ) (values : List ℕ) where
+    pub value_no_level : levels ≡ 0 → true_at table rows levels values (drop at work) ≡ false
+    unfolding true_at formula_at holds
+    value_no_level e = rw e
+
+    pub value_kind : (levels ≡ 0 → ⊥) → true_at table rows levels values (drop at work) ≡ value_by values (levels - 1) (kind_of (get_or work at 0)) (drop (at + 1) work)
     unfolding true_at formula_at
-    value_kind k e = pick levels some
+    value_kind some = pick levels some
       where
         pick : (l : ℕ) → (l ≡ 0 → ⊥) → holds (table_structure table rows) (valued values) (formula_at index_name index_name l (drop at work))
-            ≡ holds (table_structure table rows) (valued values) (formula_by index_name index_name (stored (l - 1)) k (drop (at + 1) work))
+            ≡ value_by values (l - 1) (kind_of (get_or work at 0)) (drop (at + 1) work)
         pick zero h = absurd (h refl)
-        pick (suc l) h = rw (← next-within work at, e, drop-drop 1 at work, sub-one (suc l))
+        pick (suc l) h = rw (← next-within work at, drop-drop 1 at work, sub-one (suc l))
 
-    pub value-beyond : length work ≤ at → false ≡ true_at table rows levels values (drop at work)
+    -- past the end
+    pub value_beyond : (levels ≡ 0 → ⊥) → length work ≤ at → true_at table rows levels values (drop at work) ≡ false
     unfolding kind_by formula_by holds
-    value-beyond h = sym (value_kind (kind.Truth false) (rw (get_or-eq_default work 0 h)))
+    value_beyond some h = value_kind some ∙ rw (get_or-eq_default work 0 h)
 
-    -- as the kind was seen, and what was told of what stands behind
-    module _ (k : Kind) (seen : k ≡ kind_of (get_or work at 0)) where
-      pub value-truth : (b : Bool) → k ≡ kind.Truth b → b ≡ true_at table rows levels values (drop at work)
-      unfolding formula_by holds
-      value-truth b e = sym (value_kind _ (sym seen ∙ e))
+    pub value_equality : value_by values levels kind.Equality (drop at work) ≡ eqb (value_at work at values at) (value_at work at values (at + 1))
+    unfolding formula_by holds
+    value_equality = rw (← next-within work at, get_or-drop at work 1 0)
 
-      pub value-term : k ≡ kind.Term → false ≡ true_at table rows levels values (drop at work)
-      unfolding formula_by holds
-      value-term e = sym (value_kind _ (sym seen ∙ e))
+  module _ (values : List ℕ) (levels : ℕ) where
+    pub value_atom : (p n : ℕ) (s : List ℕ) → value_by values levels (kind.Atom p n) s ≡ atom_at table rows values p n s
+    unfolding formula_by holds atom_at
+    value_atom p n s = refl
 
-      pub value-atom : (p n : ℕ) → k ≡ kind.Atom p n → (b : Bool) → b ≡ atom_at table rows values p n (drop (at + 1) work) → b ≡ true_at table rows levels values (drop at work)
-      unfolding formula_by holds atom_at
-      value-atom p n e b is = is ∙ sym (value_kind _ (sym seen ∙ e))
+    pub value_connective : (o : Sign) (n : ℕ) (s : List ℕ) → value_by values levels (kind.Connective o n) s ≡ connect (connective_of o) (truths_at table rows levels values n s)
+    unfolding formula_by holds truths_at
+    value_connective o n s = refl
 
-      pub value-equal : k ≡ kind.Equality → (b : Bool) → b ≡ eqb (value_at work at values (at + 1)) (value_at work at values (at + 1 + 1)) → b ≡ true_at table rows levels values (drop at work)
-      unfolding formula_by holds
-      value-equal e b is = is ∙ sym (value_kind _ (sym seen ∙ e) ∙ rw (← next-within work (at + 1), get_or-drop (at + 1) work 1 0))
-
-      pub value-connective : (o : Sign) (n : ℕ) → k ≡ kind.Connective o n
-          → (b : Bool) → b ≡ connect (connective_of o) (truths_at table rows (levels - 1) values n (drop (at + 1) work)) → b ≡ true_at table rows levels values (drop at work)
-      unfolding formula_by holds truths_at
-      value-connective o n e b is = is ∙ sym (value_kind _ (sym seen ∙ e))
-
-      pub value-quantifier : (every : Bool) (x : ℕ) → k ≡ kind.Quantifier every x → length values ≡ 64
-          → (b : Bool) → b ≡ each_at table rows (levels - 1) values every x (drop (at + 1) work) 1 table.domain → b ≡ true_at table rows levels values (drop at work)
-      unfolding formula_by holds each_at element_at true_at
-      value-quantifier every x e h b is =
-          is ∙ sym
-          (value_kind _ (sym seen ∙ e)
-          ∙ ap (λ (ρ : ℕ → Environment). join_all (side_of every) (map (λ (u : ℕ). guarded (side_of every) (holds (table_structure table rows) (ρ u) (stored (levels - 1) (drop (at + 1) work)))
-          (holds (table_structure table rows) (ρ u) (stored (levels - 1) (after_first (drop (at + 1) work))))) (elements_to table.domain)))
-          (fun_ext (λ (u : ℕ). valued_set values (x % 64) u (omega arith))))
+    pub value_quantifier : (every : Bool) (x : ℕ) (s : List ℕ) → length values ≡ 64
+        → value_by values levels (kind.Quantifier every x) s ≡ each_at table rows levels values every x s 1 table.domain
+    unfolding formula_by holds each_at element_at true_at
+    value_quantifier every x s h =
+        ap (λ (ρ : ℕ → Environment). join_all (side_of every) (map (λ (u : ℕ). guarded (side_of every) (holds (table_structure table rows) (ρ u) (stored levels s))
+        (holds (table_structure table rows) (ρ u) (stored levels (after_first s)))) (elements_to table.domain)))
+        (fun_ext (λ (u : ℕ). valued_set values (x % 64) u (omega arith)))
 
   -- One of the parts.
   module _ (levels : ℕ) (values : List ℕ) where
@@ -241,73 +157,69 @@ module _ (table : Table) (rows : List ℕ) where
     truths_past (suc i) (suc n) s h = rw (truths-first n s) (truths_past i n (after_first s) (omega arith))
 
     module _ (work : List ℕ) (at i n : ℕ) where
-      pub part-value : (place : ℕ) (b : Bool) → i < n → place ≡ at + skip (drop at work) i → b ≡ true_at table rows levels values (drop place work)
-          → b ≡ get_or (truths_at table rows levels values n (drop at work)) i false
-      part-value place b h e q =
-          q ∙ sym (truths_at_lem i n (drop at work) h ∙ ap (true_at table rows levels values) (drop-drop (skip (drop at work) i) at work ∙ ap (λ (k : ℕ). drop k work) (sym e)))
+      pub part_value : i < n → get_or (truths_at table rows levels values n (drop at work)) i false ≡ true_at table rows levels values (drop (at + skip (drop at work) i) work)
+      part_value h = truths_at_lem i n (drop at work) h ∙ ap (true_at table rows levels values) (drop-drop (skip (drop at work) i) at work)
 
-      pub part_none : n ≤ i → false ≡ get_or (truths_at table rows levels values n (drop at work)) i false
-      part_none h = sym (truths_past i n (drop at work) h)
+      pub part_none : n ≤ i → get_or (truths_at table rows levels values n (drop at work)) i false ≡ false
+      part_none h = truths_past i n (drop at work) h
 
-    -- a turn over the parts
-    module _ (work : List ℕ) (i n : ℕ) (every : Bool) where
+    -- a turn over the parts, `i` of `n` of which are behind
+    module _ (work : List ℕ) (every : Bool) where
       abbrev pub parts_from : ℕ → ℕ → Bool
-      parts_from i n = join_all (side_of every) (truths_at table rows levels values n (drop i work))
+      parts_from place n = join_all (side_of every) (truths_at table rows levels values n (drop place work))
 
-      pub parts_end : (all : Bool) → all ≡ parts_from i n → n ≡ 0 → every ≡ all
-      parts_end all so e = sym (so ∙ rw (e, truths-none (drop i work)) (unit_side every))
+      pub parts_end : (place n : ℕ) → n ≡ 0 → parts_from place n ≡ every
+      parts_end place n e = rw (e, truths-none (drop place work)) (unit_side every)
 
-      parts_first : 0 < n → parts_from i n ≡ join (side_of every) (true_at table rows levels values (drop i work)) (parts_from (i + skip (drop i work) 1) (n - 1))
-      parts_first h = pick n h
-        where
-          pick : (n : ℕ) → 0 < n → parts_from i n ≡ join (side_of every) (true_at table rows levels values (drop i work)) (parts_from (i + skip (drop i work) 1) (n - 1))
-          pick zero h = absurd (omega arith)
-          pick (suc n) h = rw (truths-first n (drop i work), sub-one (suc n), drop-drop (skip (drop i work) 1) i work)
+      module _ (place i n : ℕ) (more : i < n) (b : Bool) (is : b ≡ true_at table rows levels values (drop place work)) where
+        parts_first : parts_from place (n - i) ≡ join (side_of every) b (parts_from (place + skip (drop place work) 1) (n - (i + 1)))
+        parts_first =
+            let e : n - i ≡ suc (n - (i + 1)) = omega arith in
+            rw (e, truths-first (n - (i + 1)) (drop place work), drop-drop (skip (drop place work) 1) place work, ← is)
 
-      module _ (all : Bool) (so : all ≡ parts_from i n) (b : Bool) (more : 0 < n) (is : b ≡ true_at table rows levels values (drop i work)) (settled : Bool) (tells : settled ≡ settled_by every b) where
-        pub parts_settled : settled ≡ true → b ≡ all
-        parts_settled e = sym (so ∙ parts_first more ∙ rw (← is) (join-settled every b _ (sym tells ∙ e)))
+        pub parts_settled : not (beq b every) ≡ true → parts_from place (n - i) ≡ b
+        parts_settled e = parts_first ∙ join-settled every b _ e
 
-        pub parts_open : (next : ℕ) → settled ≡ false → next ≡ i + skip (drop i work) 1 → all ≡ parts_from next (n - 1)
-        parts_open next e q = so ∙ parts_first more ∙ rw (← is, q) (join_open every b _ (sym tells ∙ e))
+        pub parts_open : not (beq b every) ≡ false → parts_from place (n - i) ≡ parts_from (place + skip (drop place work) 1) (n - (i + 1))
+        parts_open e = parts_first ∙ join_open every b _ e
 
   -- Guard and body at one element.
   module _ (work : List ℕ) (at levels : ℕ) (values : List ℕ) (every : Bool) where
-    module _ (guard : Bool) (told : guard ≡ true_at table rows levels values (drop at work)) where
-      pub element_outside : guard ≡ false → every ≡ element_at table rows levels values every (drop at work)
-      unfolding element_at
-      element_outside e = rw (sym told ∙ e) (sym (unit_side every))
+    pub element_outside : true_at table rows levels values (drop at work) ≡ false → element_at table rows levels values every (drop at work) ≡ every
+    unfolding element_at
+    element_outside e = rw e (unit_side every)
 
-      pub element-inside : guard ≡ true → (body : ℕ) (b : Bool) → body ≡ at + skip (drop at work) 1
-          → b ≡ true_at table rows levels values (drop body work) → b ≡ element_at table rows levels values every (drop at work)
-      unfolding element_at
-      element-inside e body b q is = rw (sym told ∙ e, drop-drop (skip (drop at work) 1) at work, ← q) is
+    pub element_inside : true_at table rows levels values (drop at work) ≡ true
+        → element_at table rows levels values every (drop at work) ≡ true_at table rows levels values (drop (at + skip (drop at work) 1) work)
+    unfolding element_at
+    element_inside e = rw (e, drop-drop (skip (drop at work) 1) at work)
 
-  -- a turn over the elements
-  module _ (levels : ℕ) (values : List ℕ) (every : Bool) (x : ℕ) (s : List ℕ) (v n : ℕ) where
-    pub each_end : (all : Bool) → all ≡ each_at table rows levels values every x s v n → n ≡ 0 → every ≡ all
+  -- a turn over the elements, those from `v` to `n` of which are left
+  module _ (levels : ℕ) (values : List ℕ) (every : Bool) (x : ℕ) (s : List ℕ) where
+    pub each_end : (v n : ℕ) → n ≡ 0 → each_at table rows levels values every x s v n ≡ every
     unfolding each_at
-    each_end all so e = sym (so ∙ rw e (unit_side every))
+    each_end v n e = rw e (unit_side every)
 
-    each_first : 0 < n
-        → each_at table rows levels values every x s v n
-        ≡ join (side_of every) (element_at table rows levels (set values (x % 64) v) every s) (each_at table rows levels values every x s (v + 1) (n - 1))
-    unfolding each_at
-    each_first h = pick n h
-      where
-        pick : (n : ℕ) → 0 < n → join_all (side_of every) (map (λ u. element_at table rows levels (set values (x % 64) u) every s) (count_from v n))
-            ≡ join (side_of every) (element_at table rows levels (set values (x % 64) v) every s)
-            (join_all (side_of every) (map (λ u. element_at table rows levels (set values (x % 64) u) every s) (count_from (v + 1) (n - 1))))
-        pick zero h = absurd (omega arith)
-        pick (suc n) h = rw (add-one v, sub-one (suc n))
+    module _ (v n : ℕ) (more : v < n + 1) (b : Bool) (is : b ≡ element_at table rows levels (set values (x % 64) v) every s) where
+      each_first : each_at table rows levels values every x s v (n + 1 - v) ≡ join (side_of every) b (each_at table rows levels values every x s (v + 1) (n + 1 - (v + 1)))
+      unfolding each_at
+      each_first =
+          let e : n + 1 - v ≡ suc (n + 1 - (v + 1)) = omega arith in
+          rw (e, add-one v, ← is)
 
-    module _ (all : Bool) (so : all ≡ each_at table rows levels values every x s v n) (b : Bool) (more : 0 < n) (held : List ℕ) (with : held ≡ set values (x % 64) v)
-        (is : b ≡ element_at table rows levels held every s) (settled : Bool) (tells : settled ≡ settled_by every b) where
-      here : element_at table rows levels (set values (x % 64) v) every s ≡ b
-      here = rw (← with) (sym is)
+      pub each_settled : not (beq b every) ≡ true → each_at table rows levels values every x s v (n + 1 - v) ≡ b
+      each_settled e = each_first ∙ join-settled every b _ e
 
-      pub each_settled : settled ≡ true → b ≡ all
-      each_settled e = sym (so ∙ each_first more ∙ rw here (join-settled every b _ (sym tells ∙ e)))
+      pub each_open : not (beq b every) ≡ false → each_at table rows levels values every x s v (n + 1 - v) ≡ each_at table rows levels values every x s (v + 1) (n + 1 - (v + 1))
+      each_open e = each_first ∙ join_open every b _ e
 
-      pub each_open : settled ≡ false → all ≡ each_at table rows levels values every x s (v + 1) (n - 1)
-      each_open e = so ∙ each_first more ∙ rw here (join_open every b _ (sym tells ∙ e))
+-- what the code's answers follow from
+pub ruleset kinds_told = (value_no_level, value_beyond, value_kind, value_atom, value_connective, value_quantifier)
+
+pub ruleset part_told = (part_value, part_none)
+
+pub ruleset parts_told = (parts_end, parts_settled, parts_open)
+
+pub ruleset element_told = (element_outside, element_inside)
+
+pub ruleset each_told = (each_end, each_settled, each_open)

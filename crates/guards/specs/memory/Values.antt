@@ -13,11 +13,6 @@ valued values [] = 0
 valued values (i ∷ []) = get_or values i 0
 valued values (i ∷ j ∷ is) = 0
 
--- a part's value settles `&` if it is false, `|` if it is true
-abbrev pub settled_by : Bool → Bool → Bool
-settled_by true part = not part
-settled_by false part = part
-
 -- the first part's value settles a connective of one part or two
 abbrev pub settled_first : Sign → Bool → Bool
 settled_first Negation first = true

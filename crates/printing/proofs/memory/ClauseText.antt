@@ -3,9 +3,9 @@
 use Prim.Native.Nat.{ℕ, zero, suc, ◌+◌, ◌-◌, ◌*◌, ◌/◌, ◌%◌, ◌≤◌, ◌<◌}
 use native.Mathlib.Numerals.{add-one, sub-one}
 use native.Mathlib.Omega.{arith}
-use mathlib.Core.Path.{◌≡◌, refl, sym, ap, ap₂, ◌∙◌}
+use mathlib.Core.Path.{◌≡◌, refl, sym, ap, ap₂, subst, ◌∙◌}
 use mathlib.Core.List.{List, [], ◌∷◌, ◌++◌, append-nil, append_assoc}
-use mathlib.Core.Bool.{Bool, true, false, false≢true}
+use mathlib.Core.Bool.{Bool, true, false≢true}
 use lib.ListN.{length, get_or, drop, drop_of_length-le}
 use lib.Seq.{drop-drop, drop-cons}
 use Rattle.grammar.specs.Bytes.{Bytes, bytes, joined}
@@ -23,8 +23,8 @@ use Rattle.table.specs.declared.table.Table.{Table}
 use Rattle.words.specs.memory.Kinds.{kind_of, skip}
 use Rattle.words.specs.memory.Words.{truth_word, part_total, words}
 use Rattle.words.specs.declared.word.Sign.{Sign}
-use Rattle.words.specs.declared.word.Sign.TheVariants.{Junction}
 use Rattle.words.specs.declared.word.Kind.{Kind}
+use Rattle.words.specs.declared.word.Kind.TheVariants as kind
 use Rattle.words.proofs.memory.Naming.{Naming, words_in, all_words_in, term_words_in, TermsStorable, Storable, AllStorable}
 use Rattle.words.proofs.memory.Words.{sign_of, kind_truth, kind_connective, kind_atom, after_first-words}
 use Rattle.printing.specs.memory.ClauseText.{element_of, element_texts, arguments_at, sign_opening, sign_closing, part_texts, atom_text, opening, kind_text, clause_text, clause_lines}
@@ -44,47 +44,42 @@ module _ (problem : Bytes) (table : Table) where
   unfolding clause_lines
   lines_none levels n s e = rw e
 
-module _ (work : List ℕ) (i n : ℕ) (more : 0 < n) where
-  pub elements-more : element_texts n (drop i work) ≡ decimal (element_of (get_or work i 0)) ∷ element_texts (n - 1) (drop (i + 1) work)
+-- the first of `n`
+module _ (work : List ℕ) (n : ℕ) where
+  pub elements-first : (at : ℕ) → 0 < n → element_texts n (drop at work) ≡ decimal (element_of (get_or work at 0)) ∷ element_texts (n - 1) (drop (at + 1) work)
   unfolding element_texts
-  elements-more = pick n more
-    where
-      pick : (n : ℕ) → 0 < n → element_texts n (drop i work) ≡ decimal (element_of (get_or work i 0)) ∷ element_texts (n - 1) (drop (i + 1) work)
-      pick zero h = absurd (omega arith)
-      pick (suc n) h = rw (sub-one (suc n), ← next-within work i, drop-drop 1 i work)
+  elements-first at more =
+      let e : n ≡ suc (n - 1) = omega arith in
+      subst (λ (m : ℕ). element_texts m (drop at work) ≡ decimal (element_of (get_or work at 0)) ∷ element_texts (n - 1) (drop (at + 1) work)) (sym e) (rw (← next-within work at, drop-drop 1 at work))
 
-  pub parts_more : (text : List ℕ → Bytes) → part_texts text n (drop i work) ≡ text (drop i work) ∷ part_texts text (n - 1) (drop (i + skip (drop i work) 1) work)
+  pub parts_first : 0 < n → (text : List ℕ → Bytes) (place : ℕ)
+      → part_texts text n (drop place work) ≡ text (drop place work) ∷ part_texts text (n - 1) (drop (place + skip (drop place work) 1) work)
   unfolding part_texts
-  parts_more text = pick n more
-    where
-      pick : (n : ℕ) → 0 < n → part_texts text n (drop i work) ≡ text (drop i work) ∷ part_texts text (n - 1) (drop (i + skip (drop i work) 1) work)
-      pick zero h = absurd (omega arith)
-      pick (suc n) h = rw (sub-one (suc n), drop-drop (skip (drop i work) 1) i work)
+  parts_first more text place =
+      let e : n ≡ suc (n - 1) = omega arith in
+      subst (λ (m : ℕ). part_texts text m (drop place work) ≡ text (drop place work) ∷ part_texts text (n - 1) (drop (place + skip (drop place work) 1) work)) (sym e)
+      (rw (drop-drop (skip (drop place work) 1) place work))
 
-  module _ (problem : Bytes) (table : Table) (levels : ℕ) where
-    pub lines_more : clause_lines problem table levels n (drop i work)
-        ≡ (clause_text problem table levels (drop i work) ++ bytes "\n") ++ clause_lines problem table levels (n - 1) (drop (i + skip (drop i work) 1) work)
-    unfolding clause_lines
-    lines_more = pick n more
-      where
-        pick : (n : ℕ) → 0 < n → clause_lines problem table levels n (drop i work)
-            ≡ (clause_text problem table levels (drop i work) ++ bytes "\n") ++ clause_lines problem table levels (n - 1) (drop (i + skip (drop i work) 1) work)
-        pick zero h = absurd (omega arith)
-        pick (suc n) h = rw (sub-one (suc n), drop-drop (skip (drop i work) 1) i work, append_assoc)
+-- `i` of `n` are behind
+module _ (work : List ℕ) (i n : ℕ) (more : i < n) where
+  pub elements-more : (at : ℕ) → element_texts (n - i) (drop (at + i) work) ≡ decimal (element_of (get_or work (at + i) 0)) ∷ element_texts (n - (i + 1)) (drop (at + (i + 1)) work)
+  elements-more at =
+      let e : n - i - 1 ≡ n - (i + 1) = omega arith in
+      let next : at + i + 1 ≡ at + (i + 1) = omega arith in
+      rw (← e, ← next) (elements-first work (n - i) (at + i) (omega arith))
 
--- The sign of a junction.
-module _ (sign : Sign) (every : Bool) (is : sign ≡ Junction every) where
-  pub opening_all : every ≡ true → sign_opening sign ≡ []
-  opening_all e = rw (is, e)
+  pub parts_more : (text : List ℕ → Bytes) (place : ℕ)
+      → part_texts text (n - i) (drop place work) ≡ text (drop place work) ∷ part_texts text (n - (i + 1)) (drop (place + skip (drop place work) 1) work)
+  parts_more text place =
+      let e : n - i - 1 ≡ n - (i + 1) = omega arith in
+      rw (← e) (parts_first work (n - i) (omega arith) text place)
 
-  pub opening_any : every ≡ false → sign_opening sign ≡ bytes "|("
-  opening_any e = rw (is, e)
-
-  pub closing_all : every ≡ true → sign_closing sign ≡ []
-  closing_all e = rw (is, e)
-
-  pub closing_any : every ≡ false → sign_closing sign ≡ bytes ")"
-  closing_any e = rw (is, e)
+  pub lines_more : (problem : Bytes) (table : Table) (levels place : ℕ) → clause_lines problem table levels (n - i) (drop place work)
+      ≡ (clause_text problem table levels (drop place work) ++ bytes "\n") ++ clause_lines problem table levels (n - (i + 1)) (drop (place + skip (drop place work) 1) work)
+  unfolding clause_lines
+  lines_more problem table levels place =
+      let e : n - i ≡ suc (n - (i + 1)) = omega arith in
+      rw (e, drop-drop (skip (drop place work) 1) place work, append_assoc)
 
 -- An atom, with its terms in brackets if there are any.
 module _ (problem : Bytes) (table : Table) (p n : ℕ) (s : List ℕ) where
@@ -100,8 +95,15 @@ module _ (problem : Bytes) (table : Table) (p n : ℕ) (s : List ℕ) where
       pick zero h = absurd (h refl)
       pick (suc n) h = refl
 
-pub opening_kind : (problem : Bytes) (table : Table) (s : List ℕ) (k j : Kind) → k ≡ j → opening problem table k s ≡ opening problem table j s
-opening_kind problem table s k j e = ap (λ (kind : Kind). opening problem table kind s) e
+-- nothing stands before the parts of any other kind
+pub opening_none : (problem : Bytes) (table : Table) (k : Kind) (s : List ℕ)
+    → ((b : Bool) → k ≡ kind.Truth b → ⊥) → ((p n : ℕ) → k ≡ kind.Atom p n → ⊥) → ((o : Sign) (n : ℕ) → k ≡ kind.Connective o n → ⊥) → opening problem table k s ≡ []
+opening_none problem table (kind.Truth b) s h j k = absurd (h b refl)
+opening_none problem table (kind.Atom p n) s h j k = absurd (j p n refl)
+opening_none problem table kind.Equality s h j k = refl
+opening_none problem table (kind.Connective o n) s h j k = absurd (k o n refl)
+opening_none problem table (kind.Quantifier every x) s h j k = refl
+opening_none problem table kind.Term s h j k = refl
 
 -- A clause.
 module _ (problem : Bytes) (table : Table) (work : List ℕ) (at levels : ℕ) where
@@ -117,15 +119,15 @@ module _ (problem : Bytes) (table : Table) (work : List ℕ) (at levels : ℕ) w
       pick zero = refl
       pick (suc l) = refl
 
-  pub clause_kind : (k : Kind) → (levels ≡ 0 → ⊥) → at < length work → kind_of (get_or work at 0) ≡ k
-      → clause_text problem table levels (drop at work) ≡ kind_text problem table (clause_text problem table (levels - 1)) k (drop (at + 1) work)
+  pub clause_kind : (levels ≡ 0 → ⊥) → at < length work
+      → clause_text problem table levels (drop at work) ≡ kind_text problem table (clause_text problem table (levels - 1)) (kind_of (get_or work at 0)) (drop (at + 1) work)
   unfolding clause_text
-  clause_kind k some within e = rw (drop-cons work at 0 within, add-one at) (pick levels some)
+  clause_kind some within = rw (drop-cons work at 0 within, add-one at) (pick levels some)
     where
       pick : (l : ℕ) → (l ≡ 0 → ⊥)
-          → clause_text problem table l (get_or work at 0 ∷ drop (suc at) work) ≡ kind_text problem table (clause_text problem table (l - 1)) k (drop (suc at) work)
+          → clause_text problem table l (get_or work at 0 ∷ drop (suc at) work) ≡ kind_text problem table (clause_text problem table (l - 1)) (kind_of (get_or work at 0)) (drop (suc at) work)
       pick zero h = absurd (h refl)
-      pick (suc l) h = rw (e, sub-one (suc l))
+      pick (suc l) h = rw (sub-one (suc l))
 
 -- Where the words of a ground clause stand.
 

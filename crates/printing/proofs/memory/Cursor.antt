@@ -5,41 +5,30 @@ use native.Mathlib.Nat.{zero-add}
 use native.Mathlib.Numerals.{add-one}
 use native.Mathlib.Omega.{arith}
 use mathlib.Core.Path.{◌≡◌, refl, sym, ap, ap₂, subst, ◌∙◌}
-use mathlib.Core.List.{List, [], ◌∷◌, ◌++◌}
+use mathlib.Core.List.{List, [], ◌∷◌, ◌++◌, append-nil}
 use mathlib.Core.Bool.{Bool, true, false, cond, ◌&&◌}
-use borrow.Author.Tests.{eq-eqb, ne_eqb, eqb-true}
-use lib.Dec.{eqb, eqb-suc-suc}
+use borrow.Author.Tests.{ne_eqb, eqb-true, ltb-true, ltb-false}
+use denote.Bor.{Bor}
+use lib.Dec.{eqb, eqb-suc-suc, ltb}
 use lib.ListN.{length, get_or, drop, set, drop_of_length-le}
 use lib.Seq.{sets, drop-cons, drop-drop}
+use Rattle.std.specs.Prelude.{Option, None, Some}
+use Rattle.std.specs.Option.{is_some, IfSome, option_eq, option_copied}
 use Rattle.grammar.specs.Bytes.{Bytes, same, followed}
 use Rattle.grammar.specs.Lines.{is_lf}
 use Rattle.printing.specs.declared.cursor.Cursor.{Cursor}
-use Rattle.printing.specs.memory.Cursor.{countless, counted, first_is, agrees_after, line_after, cursor_after, first_cursor, Print, emitted, printed, Prints}
+use Rattle.printing.specs.declared.cursor.Printer.{Printer}
+use Rattle.printing.specs.memory.Cursor.{countless, counted, first_is, agrees_after, line_after, cursor_after, first_cursor, Print, emitted, printed, Prints, Writes}
 
 -- One byte.
 
-module _ (text : Bytes) (at b : ℕ) where
-  pub first-within : at < length text → eqb (get_or text at 0) b ≡ first_is (drop at text) b
-  first-within h = rw (drop-cons text at 0 h)
-
-  pub first-beyond : length text ≤ at → false ≡ first_is (drop at text) b
-  first-beyond h = rw (drop_of_length-le text h)
-
-module _ (claim : Bytes) (cursor : Cursor) (b length : ℕ) (e : length ≡ counted cursor.length) where
-  -- where all was the same no more
-  module _ (other : agrees_after claim cursor b ≡ false) where
-    pub cursor_other : record { length = length; same = false; line = cursor.line } ≡ cursor_after claim cursor b
-    unfolding cursor_after line_after
-    cursor_other = rw (other, e)
-
-  module _ (agrees : agrees_after claim cursor b ≡ true) where
-    pub cursor_plain : (b ≡ 10 → ⊥) → record { length = length; same = true; line = cursor.line } ≡ cursor_after claim cursor b
-    unfolding cursor_after line_after
-    cursor_plain h = rw (agrees, e, ne_eqb b 10 h)
-
-    pub cursor_feed : (line : ℕ) → b ≡ 10 → line ≡ counted cursor.line → record { length = length; same = true; line = line } ≡ cursor_after claim cursor b
-    unfolding cursor_after line_after
-    cursor_feed line h k = rw (agrees, e, eq-eqb b 10 h, k)
+-- whether the byte at a place, which may lie past the end, is `b`
+pub first_here : (text : Bytes) (at b : ℕ) (here : Option (Bor ℕ)) → is_some here ≡ ltb at (length text) → IfSome here (λ x. x.now ≡ get_or text at x.now)
+    → option_eq eqb (option_copied here) (Some b) ≡ first_is (drop at text) b
+first_here text at b None e h = let beyond = ltb-false at (length text) (sym e) in rw (drop_of_length-le text beyond)
+first_here text at b (Some x) e h =
+    let within = ltb-true at (length text) (sym e) in
+    rw (drop-cons text at x.now within, ← h)
 
 pub agrees_before : (claim : Bytes) (cursor : Cursor) (b : ℕ) → cursor.same ≡ false → agrees_after claim cursor b ≡ false
 unfolding agrees_after
@@ -58,51 +47,71 @@ module _ (claim : Bytes) (store : Bool) where
   printed-append p [] t = refl
   printed-append p (b ∷ s) t = printed-append (emitted claim store p b) s t
 
-  pub print_one : (cursor last : Cursor) (old new : List ℕ) (b : ℕ)
-      → last ≡ cursor_after claim cursor b → new ≡ cond store (set old cursor.length b) old → Prints claim store (cursor, old) (b ∷ []) (last, new)
-  unfolding printed emitted
-  print_one cursor last old new b e h = record { is = ap₂ (λ (x : Cursor) (y : List ℕ). (x, y)) e h }
+-- A printer goes on.
 
--- One text after another.
-module _ {claim : Bytes} {store : Bool} {p q r : Print} where
-  pub print_then : {s t : Bytes} → Prints claim store p s q → Prints claim store q t r → Prints claim store p (s ++ t) r
-  print_then {s} {t} e f = record { is = f.is ∙ ap (λ (x : Print). printed claim store x t) e.is ∙ sym (printed-append claim store p s t) }
+pub writes_one : {p q : Printer} {b : ℕ} → q.claim.now ≡ p.claim.now → q.store ≡ p.store → q.out.ghost_name ≡ p.out.ghost_name
+    → q.cursor ≡ cursor_after p.claim.now p.cursor b → q.out.now ≡ cond p.store (set p.out.now p.cursor.length b) p.out.now → Writes p (b ∷ []) q
+unfolding printed emitted
+writes_one e f r g h = record { claim = e; store = f; out = r; prints = record { is = ap₂ (λ (x : Cursor) (y : List ℕ). (x, y)) g h } }
 
--- The same text in other words.
-pub print_as : {claim : Bytes} {store : Bool} {p q : Print} {s w : Bytes} → w ≡ s → Prints claim store p s q → Prints claim store p w q
-print_as {claim} {store} {p} e f = record { is = f.is ∙ ap (printed claim store p) (sym e) }
+-- the same text in other words
+pub writes_as : {p q : Printer} {s w : Bytes} → w ≡ s → Writes p s q → Writes p w q
+writes_as {p} {q} e f = subst (λ (t : Bytes). Writes p t q) (sym e) f
 
-pub print_nothing : {claim : Bytes} {store : Bool} {p : Print} {w : Bytes} → w ≡ [] → Prints claim store p w p
+pub writes_nothing : {p : Printer} {w : Bytes} → w ≡ [] → Writes p w p
 unfolding printed
-print_nothing e = record { is = rw e }
+writes_nothing e = record { claim = refl; store = refl; out = refl; prints = record { is = rw e } }
+
+-- Of a whole text from p on, a rest is still to be printed from q on.
+pub record Remains (p : Printer) (whole : Bytes) (q : Printer) (rest : Bytes) : Type 0 where
+  pub claim : q.claim.now ≡ p.claim.now
+  pub store : q.store ≡ p.store
+  pub out : q.out.ghost_name ≡ p.out.ghost_name
+  pub is : printed p.claim.now p.store (p.cursor, p.out.now) whole ≡ printed p.claim.now p.store (q.cursor, q.out.now) rest
+
+pub remains_all : {p : Printer} {whole : Bytes} → Remains p whole p whole
+remains_all = record { claim = refl; store = refl; out = refl; is = refl }
+
+module _ {p q : Printer} {whole rest : Bytes} (so : Remains p whole q rest) where
+  pub remains_nothing : rest ≡ [] → Writes p whole q
+  unfolding printed
+  remains_nothing e = record {
+    claim = so.claim;
+    store = so.store;
+    out = so.out;
+    prints = record { is = sym (so.is ∙ ap (printed p.claim.now p.store (q.cursor, q.out.now)) e) };
+  }
+
+  pub remains_then : {r : Printer} {s t : Bytes} → rest ≡ s ++ t → Writes q s r → Remains p whole r t
+  remains_then {r} {s} {t} e f =
+      let moved : (r.cursor, r.out.now) ≡ printed p.claim.now p.store (q.cursor, q.out.now) s = rw (← so.claim, ← so.store) f.prints.is in
+      record {
+        claim = f.claim ∙ so.claim;
+        store = f.store ∙ so.store;
+        out = f.out ∙ so.out;
+        is =
+            so.is ∙ ap (printed p.claim.now p.store (q.cursor, q.out.now)) e ∙ printed-append p.claim.now p.store (q.cursor, q.out.now) s t
+            ∙ ap (λ (x : Print). printed p.claim.now p.store x t) (sym moved);
+      }
+
+-- one text after another
+pub writes_then : {p q r : Printer} {s t : Bytes} → Writes p s q → Writes q t r → Writes p (s ++ t) r
+writes_then {p} {q} {r} {s} {t} e f = remains_nothing (remains_then (remains_then (remains_all {whole = s ++ t}) refl e) (sym (append-nil t)) f) refl
+
+-- the output as it is handed back
+pub writes_whole : {p q : Printer} {text out : Bytes} → out ≡ q.out.now → Writes p text q → Prints p.claim.now p.store (p.cursor, p.out.now) text (q.cursor, out)
+writes_whole e f = rw e f.prints
 
 -- the bytes of a slice from a place on
 pub from_byte : (s : Bytes) (i : ℕ) → i < length s → drop i s ≡ (get_or s i 0 ∷ []) ++ drop (i + 1) s
 from_byte s i h = rw (add-one i) (drop-cons s i 0 h)
 
--- Of a whole text from p on, a rest is still to be printed from q on.
-pub record Remains (claim : Bytes) (store : Bool) (p : Print) (whole : Bytes) (q : Print) (rest : Bytes) : Type 0 where
-  pub is : printed claim store p whole ≡ printed claim store q rest
-
-pub remains_all : {claim : Bytes} {store : Bool} {p : Print} {whole : Bytes} → Remains claim store p whole p whole
-remains_all = record { is = refl }
-
-module _ {claim : Bytes} {store : Bool} {p q : Print} {whole rest : Bytes} (so : Remains claim store p whole q rest) where
-  pub remains_nothing : rest ≡ [] → Prints claim store p whole q
-  unfolding printed
-  remains_nothing e = record { is = sym (so.is ∙ ap (printed claim store q) e) }
-
-  pub remains_then : {r : Print} {s t : Bytes} → rest ≡ s ++ t → Prints claim store q s r → Remains claim store p whole r t
-  remains_then {r} {s} {t} e f =
-      record { is = so.is ∙ ap (printed claim store q) e ∙ printed-append claim store q s t ∙ ap (λ (x : Print). printed claim store x t) (sym f.is) }
-
 -- Texts with commas between them: one more, and no more.
-module _ {claim : Bytes} {store : Bool} {p q : Print} {whole : Bytes} {vs : List Bytes} (so : Remains claim store p whole q (followed 44 vs)) where
-  pub remains_next : {o r : Print} {w : Bytes} {ws : List Bytes} → vs ≡ w ∷ ws → Prints claim store q (44 ∷ []) o → Prints claim store o w r
-      → Remains claim store p whole r (followed 44 ws)
-  remains_next e f g = remains_then so (ap (followed 44) e) (print_then f g)
+module _ {p q : Printer} {whole : Bytes} {vs : List Bytes} (so : Remains p whole q (followed 44 vs)) where
+  pub remains_next : {o r : Printer} {w : Bytes} {ws : List Bytes} → vs ≡ w ∷ ws → Writes q (44 ∷ []) o → Writes o w r → Remains p whole r (followed 44 ws)
+  remains_next e f g = remains_then so (ap (followed 44) e) (writes_then f g)
 
-  pub remains_last : vs ≡ [] → Prints claim store p whole q
+  pub remains_last : vs ≡ [] → Writes p whole q
   remains_last e = remains_nothing so (ap (followed 44) e)
 
 -- Whole texts: what the cursor tells behind them, and what is stored.

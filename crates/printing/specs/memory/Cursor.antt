@@ -3,6 +3,7 @@ use Rattle.std.specs.Prelude.{ℕ, ◌+◌, min, ◌≡◌, List, [], ◌∷◌,
 use Rattle.grammar.specs.Bytes.{Bytes}
 use Rattle.grammar.specs.Lines.{is_lf}
 use Rattle.printing.specs.declared.cursor.Cursor.{Cursor}
+use Rattle.printing.specs.declared.cursor.Printer.{Printer}
 
 -- larger than every text: from here on bytes and lines are not counted
 abbrev pub countless : ℕ
@@ -53,3 +54,10 @@ module _ (claim : Bytes) (store : Bool) where
 -- a text leads from one print to another
 pub record Prints (claim : Bytes) (store : Bool) (p : Print) (text : Bytes) (q : Print) : Type 0 where
   pub is : q ≡ printed claim store p text
+
+-- a text leads from one printer to another, with the same claim and output, and stored or not as before
+pub record Writes (p : Printer) (text : Bytes) (q : Printer) : Type 0 where
+  pub claim : q.claim.now ≡ p.claim.now
+  pub store : q.store ≡ p.store
+  pub out : q.out.ghost_name ≡ p.out.ghost_name
+  pub prints : Prints p.claim.now p.store (p.cursor, p.out.now) text (q.cursor, q.out.now)

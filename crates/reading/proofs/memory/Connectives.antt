@@ -10,6 +10,7 @@ use lib.Dec.{eqb}
 use lib.ListN.{length, drop, set, length-drop}
 use lib.Seq.{drop-drop}
 use borrow.Author.Tests.{eqb-true, eqb-false}
+use Rattle.std.specs.Prelude.{Ok}
 use Rattle.grammar.specs.Bytes.{Bytes, next}
 use Rattle.grammar.specs.Outcome.{Outcome, done, refused}
 use Rattle.grammar.specs.Outcome as outcome
@@ -25,16 +26,17 @@ use Rattle.logic.proofs.Reading.{reads-formula}
 use Rattle.text.proofs.FoundBytes.{byte_found}
 use Rattle.words.specs.memory.Words.{connective_tag, part_total, words}
 use Rattle.terms.specs.memory.Facts.{simple_facts, connective_facts}
+use Rattle.terms.specs.declared.name_table.NameTable.{NameTable}
 use Rattle.terms.specs.memory.Lists.{up_to}
 use Rattle.terms.specs.memory.Entries.{Setting, Memory, memory}
-use Rattle.terms.specs.declared.fact.Facts.{Facts}
+use Rattle.text.specs.declared.read.Read.{Read}
+use Rattle.reading.specs.declared.read.Parts.{Parts}
 use Rattle.terms.proofs.memory.Facts.{facts_none, facts_connective}
 use Rattle.terms.proofs.memory.Lists.{byte_first, byte_other, Shrinks, up_to-separated, pair_list}
 use Rattle.terms.proofs.memory.Entries.{entered-none, entered_alike, entered_header}
 use Rattle.reading.specs.memory.Openings.{read_connective}
-use Rattle.reading.specs.memory.FormulaReads.{ToldBehind}
+use Rattle.reading.specs.memory.FormulaReads.{read_to, ToldBehind}
 use Rattle.reading.specs.memory.PartReads.{none_follow, further_parts, parts_close, close_size, PartsFound}
-use Rattle.reading.specs.declared.read.Read.TheVariants as read
 
 -- A formula leaves no more than it was read from.
 pub shrinks_formula : (levels : ℕ) → Shrinks (read_formula levels)
@@ -163,8 +165,8 @@ module _ (text : Bytes) (at : ℕ) where
 -- Connectives.
 
 module _ (s : Setting) (r : Reading Formula) (o : Connective) (at : ℕ) where
-  pub connective-none : none_follow o (drop at s.text) ≡ true → (names work : List ℕ) (to : ℕ)
-      → ToldBehind (read_connective r o) s at (memory names work) to (read.Done (at + 1) 1 (connective_facts o (simple_facts true true)))
+  pub connective-none : none_follow o (drop at s.text) ≡ true → (names : NameTable) (work : List ℕ) (to : ℕ)
+      → ToldBehind (read_connective r o) s at (memory names work) to (Ok (read_to 1 (connective_facts o (simple_facts true true)) (at + 1)))
       (memory names (set work to (0 * 16 + connective_tag o)))
   unfolding size variables known words
   connective-none e names work to reader sign same h =
@@ -185,25 +187,24 @@ module _ (s : Setting) (r : Reading Formula) (o : Connective) (at : ℕ) where
     pub connective-refused : (number : ℕ) → up_to most r (drop at s.text) ≡ refused number → read_connective r o (drop at s.text) ≡ refused number
     connective-refused number e = connective-is ∙ rw e
 
-    module _ (old : Memory) (to after extent count : ℕ) (facts : Facts) (names mid : List ℕ)
-        (f : PartsFound (up_to most r) s at old (to + 1) after extent count facts (memory names mid)) where
-      pub connective_open : parts_close o count (drop after s.text) ≡ false → read_connective r o (drop at s.text) ≡ refused 5
+    module _ (old : Memory) (to : ℕ) (q : Read Parts) (names : NameTable) (mid : List ℕ) (f : PartsFound (up_to most r) s at old (to + 1) q (memory names mid)) where
+      pub connective_open : parts_close o q.value.count (drop q.next s.text) ≡ false → read_connective r o (drop at s.text) ≡ refused 5
       unfolding closing
       connective_open e = connective-is ∙ rw (f.is, ← f.taken.counted, e)
 
-      pub connective-found : parts_close o count (drop after s.text) ≡ true
-          → ToldBehind (read_connective r o) s at old to (read.Done (after + close_size o) (extent + 1) (connective_facts o facts))
-          (memory names (set mid to (count * 16 + connective_tag o)))
+      pub connective-found : parts_close o q.value.count (drop q.next s.text) ≡ true
+          → ToldBehind (read_connective r o) s at old to (Ok (read_to (q.value.size + 1) (connective_facts o q.value.facts) (q.next + close_size o)))
+          (memory names (set mid to (q.value.count * 16 + connective_tag o)))
       unfolding size variables known words closing
       connective-found e reader sign same h =
-          let closed : parts_close o (length f.items) (drop after s.text) ≡ true = rw (← f.taken.counted) e in
-          let total : part_total (parts_of f.items) ≡ count = part_total-parts_of f.items ∙ sym f.taken.counted in
+          let closed : parts_close o (length f.items) (drop q.next s.text) ≡ true = rw (← f.taken.counted) e in
+          let total : part_total (parts_of f.items) ≡ q.value.count = part_total-parts_of f.items ∙ sym f.taken.counted in
           record {
             formula = connective o (parts_of f.items);
-            is = same ∙ connective-is ∙ rw (f.is, closed, drop-drop (close_size o) after s.text);
+            is = same ∙ connective-is ∙ rw (f.is, closed, drop-drop (close_size o) q.next s.text);
             measured = omega (arith, f.taken.measured);
-            judged = rw f.taken.judged (sym (facts_connective s.problem s.bound o (parts_of f.items) (close_takes f.items (drop after s.text) o closed)));
+            judged = rw f.taken.judged (sym (facts_connective s.problem s.bound o (parts_of f.items) (close_takes f.items (drop q.next s.text) o closed)));
             after = omega (arith, f.after);
-            within = close_within s.text after o count f.within e;
-            entered = entered_alike s.text refl (λ k. k) (λ ix. rw total) (entered_header s.text (count * 16 + connective_tag o) f.taken.entered);
+            within = close_within s.text q.next o q.value.count f.within e;
+            entered = entered_alike s.text refl (λ k. k) (λ ix. rw total) (entered_header s.text (q.value.count * 16 + connective_tag o) f.taken.entered);
           }

@@ -3,7 +3,7 @@
 -- Assumes nothing.
 use Prim.Native.Nat.{ℕ, zero, suc, ◌+◌, ◌-◌, ◌*◌, ◌≤◌, ◌<◌}
 use native.Mathlib.Omega.{arith}
-use mathlib.Core.Path.{◌≡◌, refl, sym, ap, ap₂, subst, ◌∙◌}
+use mathlib.Core.Path.{◌≡◌, refl, sym, ap, ap₂, ◌∙◌}
 use mathlib.Core.List.{List, [], ◌∷◌, ◌++◌, append-nil, append_assoc}
 use mathlib.Core.Bool.{Bool, true, false, not, ◌&&◌, and-true, and_assoc, false≢true}
 use lib.Dec.{eqb}
@@ -21,18 +21,17 @@ use Rattle.logic.specs.Limits.{term_variables, variables, all_variables}
 use Rattle.text.proofs.FoundBytes.{byte_found}
 use Rattle.words.specs.memory.Words.{connective_tag, quantifier_tag, part_total, words, all_words}
 use Rattle.words.proofs.memory.Words.{all_words-sizes}
-use Rattle.terms.specs.memory.Facts.{simple_facts, beside}
 use Rattle.terms.specs.memory.Lists.{up_to}
 use Rattle.terms.specs.memory.Entries.{Setting, Memory}
-use Rattle.terms.specs.declared.fact.Facts.{Facts}
+use Rattle.text.specs.declared.read.Read.{Read}
+use Rattle.reading.specs.declared.read.Measured.{Measured}
+use Rattle.reading.specs.declared.read.Parts.{Parts}
 use Rattle.terms.proofs.memory.Facts.{facts_none, facts_last}
 use Rattle.terms.proofs.memory.Lists.{list-refused, list_full, list-last, list-more}
 use Rattle.terms.proofs.memory.Entries.{GoesBy, entered-none, entered_alike, entered_then}
 use Rattle.terms.proofs.memory.TermReads.{term_word_goes, term_words_goes}
-use Rattle.reading.specs.memory.FormulaReads.{Found, Told}
-use Rattle.reading.specs.memory.PartReads.{another_follows, PartsTaken, PartsFound, ToldParts}
-use Rattle.reading.specs.declared.read.Read.{Read}
-use Rattle.reading.specs.declared.read.PartsRead.{PartsRead}
+use Rattle.reading.specs.memory.FormulaReads.{Found}
+use Rattle.reading.specs.memory.PartReads.{another_follows, none_told, with_told, PartsTaken, PartsFound}
 
 -- A formula's words go by the indices of its variables.
 
@@ -98,19 +97,19 @@ length-sizes (f ∷ fs) = omega (arith, size_some f, length-sizes fs)
 
 module _ (s : Setting) where
   -- there are no more than their size
-  pub parts_few : {items : List Formula} {count extent : ℕ} {facts : Facts} {old : Memory} {to : ℕ} {new : Memory}
-      → PartsTaken s items count extent facts old to new → count ≤ extent
+  pub parts_few : {items : List Formula} {parts : Parts} {old : Memory} {to : ℕ} {new : Memory}
+      → PartsTaken s items parts old to new → parts.count ≤ parts.size
   parts_few {items} taken = omega (arith, taken.counted, taken.measured, length-sizes items)
 
-  parts_none : (m : Memory) (to : ℕ) → PartsTaken s [] 0 0 (simple_facts true true) m to m
+  parts_none : (m : Memory) (to : ℕ) → PartsTaken s [] none_told m to m
   unfolding size variables known words
   parts_none m to =
       record { counted = refl; measured = refl; judged = sym (facts_none s.problem s.bound); entered = entered-none s.text m to }
 
-  parts_more : (items : List Formula) (count extent : ℕ) (facts : Facts) (old mid : Memory) (to : ℕ) → PartsTaken s items count extent facts old to mid
-      → (r : Reading Formula) (i after more : ℕ) (one : Facts) (new : Memory) (f : Found r s i mid (to + extent) after more one new)
-      → PartsTaken s (items ++ (f.formula ∷ [])) (count + 1) (extent + more) (beside facts one) old to new
-  parts_more items count extent facts old mid to taken r i after more one new f =
+  parts_more : (items : List Formula) (parts : Parts) (old mid : Memory) (to : ℕ) → PartsTaken s items parts old to mid
+      → (r : Reading Formula) (i : ℕ) (one : Read Measured) (new : Memory) (f : Found r s i mid (to + parts.size) one new)
+      → PartsTaken s (items ++ (f.formula ∷ [])) (with_told parts one.value) old to new
+  parts_more items parts old mid to taken r i one new f =
       record {
         counted = rw (length-append items (f.formula ∷ [])) (omega (arith, taken.counted));
         measured = omega (arith, taken.measured, f.measured, sizes-last items f.formula);
@@ -122,36 +121,39 @@ module _ (s : Setting) where
       }
 
 -- some are read by r, and then those from i on, at most so many more
-pub record PartsPassed (r : Reading Formula) (s : Setting) (most at : ℕ) (old : Memory) (to i more count extent : ℕ) (facts : Facts) (new : Memory) : Type 0 where
+pub record PartsPassed (r : Reading Formula) (s : Setting) (most at : ℕ) (old : Memory) (to i more : ℕ) (parts : Parts) (new : Memory) : Type 0 where
   pub items : List Formula
   pub is : up_to most r (drop at s.text) ≡ prepended items (up_to more r (drop i s.text))
-  pub taken : PartsTaken s items count extent facts old to new
-  pub few : count ≤ extent
-  pub after : at + extent ≤ i
+  pub taken : PartsTaken s items parts old to new
+  pub few : parts.count ≤ parts.size
+  pub after : at + parts.size ≤ i
   pub within : i ≤ length s.text
 
 module _ (r : Reading Formula) (s : Setting) (most at : ℕ) (old : Memory) (to : ℕ) where
-  pub parts_first : at ≤ length s.text → PartsPassed r s most at old to at most 0 0 (simple_facts true true) old
-  parts_first h =
+  pub parts_first : at ≤ length s.text → (more : ℕ) → more ≡ most → PartsPassed r s most at old to at more none_told old
+  parts_first h more e =
       record {
         items = [];
-        is = prepended_none (up_to most r (drop at s.text));
+        is = rw e (prepended_none (up_to most r (drop at s.text)));
         taken = parts_none s old to;
         few = omega arith;
         after = omega arith;
         within = h;
       }
 
-  module _ (i more count extent : ℕ) (facts : Facts) (mid : Memory) (p : PartsPassed r s most at old to i more count extent facts mid) where
+  module _ (i more : ℕ) (parts : Parts) (mid : Memory) (p : PartsPassed r s most at old to i more parts mid) where
     pub parts_refused : (number : ℕ) → r (drop i s.text) ≡ refused number → up_to most r (drop at s.text) ≡ refused number
     parts_refused number e = p.is ∙ list-refused r s.text i more p.items number e
 
-    module _ (after wide : ℕ) (one : Facts) (new : Memory) (f : Found r s i mid (to + extent) after wide one new) where
-      taken_more : PartsTaken s (p.items ++ (f.formula ∷ [])) (count + 1) (extent + wide) (beside facts one) old to new
-      taken_more = parts_more s p.items count extent facts old mid to p.taken r i after wide one new f
+    module _ (one : Read Measured) (new : Memory) (f : Found r s i mid (to + parts.size) one new) where
+      taken_more : PartsTaken s (p.items ++ (f.formula ∷ [])) (with_told parts one.value) old to new
+      taken_more = parts_more s p.items parts old mid to p.taken r i one new f
 
-      parts_end : prepended p.items (up_to more r (drop i s.text)) ≡ done (p.items ++ (f.formula ∷ []), drop after s.text)
-          → PartsFound (up_to most r) s at old to after (extent + wide) (count + 1) (beside facts one) new
+      abbrev last : Read Parts
+      last = record { value = with_told parts one.value; next = one.next }
+
+      parts_end : prepended p.items (up_to more r (drop i s.text)) ≡ done (p.items ++ (f.formula ∷ []), drop one.next s.text)
+          → PartsFound (up_to most r) s at old to last new
       parts_end e =
           record {
             items = p.items ++ (f.formula ∷ []);
@@ -161,39 +163,27 @@ module _ (r : Reading Formula) (s : Setting) (most at : ℕ) (old : Memory) (to 
             within = f.within;
           }
 
-      pub parts_last : another_follows more (drop after s.text) ≡ false
-          → PartsFound (up_to most r) s at old to after (extent + wide) (count + 1) (beside facts one) new
+      pub parts_last : another_follows more (drop one.next s.text) ≡ false → PartsFound (up_to most r) s at old to last new
       parts_last e = pick (eqb more 0) refl e
         where
-          pick : (b : Bool) → eqb more 0 ≡ b → (not b && eqb (next (drop after s.text)) 44) ≡ false
-              → PartsFound (up_to most r) s at old to after (extent + wide) (count + 1) (beside facts one) new
-          pick true z e = parts_end (list_full r s.text i more p.items f.formula after f.is (eqb-true more 0 z))
-          pick false z e = parts_end (list-last r s.text i more p.items f.formula after f.is (eqb-false (next (drop after s.text)) 44 e))
+          pick : (b : Bool) → eqb more 0 ≡ b → (not b && eqb (next (drop one.next s.text)) 44) ≡ false → PartsFound (up_to most r) s at old to last new
+          pick true z e = parts_end (list_full r s.text i more p.items f.formula one.next f.is (eqb-true more 0 z))
+          pick false z e = parts_end (list-last r s.text i more p.items f.formula one.next f.is (eqb-false (next (drop one.next s.text)) 44 e))
 
-      pub parts_on : another_follows more (drop after s.text) ≡ true
-          → PartsPassed r s most at old to (after + 1) (more - 1) (count + 1) (extent + wide) (beside facts one) new
-      parts_on e =
+      pub parts_on : another_follows more (drop one.next s.text) ≡ true → (left : ℕ) → left ≡ more - 1
+          → PartsPassed r s most at old to (one.next + 1) left (with_told parts one.value) new
+      parts_on e left less =
           let some : more ≡ 0 → ⊥ = eqb-false more 0 (not-true (eqb more 0) (and_left (not (eqb more 0)) _ e)) in
-          let comma : next (drop after s.text) ≡ 44 = eqb-true (next (drop after s.text)) 44 (and_right (not (eqb more 0)) _ e) in
+          let comma : next (drop one.next s.text) ≡ 44 = eqb-true (next (drop one.next s.text)) 44 (and_right (not (eqb more 0)) _ e) in
           record {
             items = p.items ++ (f.formula ∷ []);
-            is = p.is ∙ list-more r s.text i more p.items f.formula after f.is some comma;
+            is = rw less (p.is ∙ list-more r s.text i more p.items f.formula one.next f.is some comma);
             taken = taken_more;
             few = parts_few s taken_more;
             after = omega (arith, p.after, f.after);
-            within = (byte_found s.text after 44 (omega arith) comma).within;
+            within = (byte_found s.text one.next 44 (omega arith) comma).within;
           }
 
 pub some_more : (more : ℕ) (u : Bytes) → another_follows more u ≡ true → 0 < more
 some_more zero u e = absurd (false≢true e)
 some_more (suc more) u e = omega arith
-
--- by the answer
-module _ (reader : Reading Formula) (s : Setting) (at : ℕ) (old : Memory) (to : ℕ) (new : Memory) (r : Read) (t : Told reader s at old to r new) where
-  pub formula_by_lem : (q : Read) → r ≡ q → Told reader s at old to q new
-  formula_by_lem q e = subst (λ x. Told reader s at old to x new) e t
-
-module _ (reader : Reading (List Formula)) (s : Setting) (at : ℕ) (old : Memory) (to : ℕ) (new : Memory) (r : PartsRead)
-    (t : ToldParts reader s at old to r new) where
-  pub parts_by_lem : (q : PartsRead) → r ≡ q → ToldParts reader s at old to q new
-  parts_by_lem q e = subst (λ x. ToldParts reader s at old to x new) e t

@@ -1,12 +1,13 @@
 -- Quantifiers at a place of the theory's text: a variable, and a guard and a body within its binding.
 -- Assumes nothing.
-use Prim.Native.Nat.{ℕ, ◌+◌, ◌-◌, ◌*◌, ◌≤◌}
+use Prim.Native.Nat.{ℕ, ◌+◌, ◌*◌, ◌≤◌}
 use native.Mathlib.Omega.{arith}
 use mathlib.Core.Path.{◌≡◌, refl, sym, subst, ◌∙◌}
 use mathlib.Core.List.{List}
-use mathlib.Core.Bool.{Bool, true, false}
-use lib.ListN.{length, take, drop, set}
+use mathlib.Core.Bool.{true, false}
+use lib.ListN.{length, drop, set}
 use lib.Seq.{drop-drop}
+use Rattle.std.specs.Prelude.{Ok}
 use Rattle.grammar.specs.Bytes.{Bytes, bytes, next, begins}
 use Rattle.grammar.specs.Outcome.{Outcome, done, refused}
 use Rattle.grammar.specs.Outcome as outcome
@@ -16,22 +17,23 @@ use Rattle.logic.specs.Formula.{Side, Formula, quantifier, size}
 use Rattle.logic.specs.Names.{known, besides}
 use Rattle.logic.specs.Limits.{variables}
 use Rattle.logic.specs.Reading.{read_variable, read_quantifier}
+use Rattle.text.specs.memory.Found.{Taken}
 use Rattle.text.proofs.Found.{word-found}
 use Rattle.text.proofs.FoundBytes.{byte_found}
 use Rattle.words.specs.memory.Words.{quantifier_tag, words}
 use Rattle.words.proofs.memory.Words.{words_size}
 use Rattle.terms.specs.memory.Facts.{facts_of, quantifier_facts}
+use Rattle.terms.specs.declared.name_table.NameTable.{NameTable}
 use Rattle.terms.specs.memory.NameTable.{NameListed}
-use Rattle.terms.specs.memory.Entries.{Setting, setting, Memory, memory}
-use Rattle.terms.specs.memory.TermReads.{NameTaken}
-use Rattle.terms.specs.declared.fact.Facts.{Facts}
+use Rattle.terms.specs.memory.Entries.{Setting, Memory, memory}
 use Rattle.terms.proofs.memory.Facts.{facts_quantifier, quantifiers-size}
 use Rattle.terms.proofs.memory.Lists.{byte_read, byte_refused}
 use Rattle.terms.proofs.memory.Entries.{entered_then, entered-index}
-use Rattle.reading.specs.memory.FormulaReads.{Found, ToldBehind}
-use Rattle.reading.specs.memory.PartReads.{read_guarded, GuardedFound, ToldGuarded}
-use Rattle.reading.specs.declared.read.Read.TheVariants as read
-use Rattle.reading.specs.declared.read.GuardedRead.{GuardedRead}
+use Rattle.reading.specs.memory.FormulaReads.{read_to, Found, ToldBehind}
+use Rattle.reading.specs.memory.PartReads.{read_guarded, GuardedFound}
+use Rattle.text.specs.declared.read.Read.{Read}
+use Rattle.reading.specs.declared.read.Measured.{Measured}
+use Rattle.reading.specs.declared.read.Guarded.{Guarded}
 use Rattle.reading.proofs.memory.PartReads.{words_goes}
 
 -- A guard and a body.
@@ -41,27 +43,28 @@ module _ (s : Setting) (r : Reading Formula) (at : ℕ) (old : Memory) (to : ℕ
   unfolding read_guarded
   guarded-refused number e = rw e
 
-  module _ (after extent : ℕ) (guard : Facts) (mid : Memory) (g : Found r s at old to after extent guard mid) where
-    pub guarded_open : begins (bytes "]:") (drop after s.text) ≡ false → read_guarded r (drop at s.text) ≡ refused 5
+  module _ (guard : Read Measured) (mid : Memory) (g : Found r s at old to guard mid) where
+    pub guarded_open : begins (bytes "]:") (drop guard.next s.text) ≡ false → read_guarded r (drop at s.text) ≡ refused 5
     unfolding read_guarded word
     guarded_open e = rw (g.is, e)
 
-    module _ (e : begins (bytes "]:") (drop after s.text) ≡ true) where
-      pub guarded-within : after + 2 ≤ length s.text
-      guarded-within = (word-found s.text after (bytes "]:") g.within e).within
+    module _ (e : begins (bytes "]:") (drop guard.next s.text) ≡ true) where
+      pub guarded-within : guard.next + 2 ≤ length s.text
+      guarded-within = (word-found s.text guard.next (bytes "]:") g.within e).within
 
-      pub guarded_bodiless : (number : ℕ) → r (drop (after + 2) s.text) ≡ refused number → read_guarded r (drop at s.text) ≡ refused number
+      pub guarded_bodiless : (number : ℕ) → r (drop (guard.next + 2) s.text) ≡ refused number → read_guarded r (drop at s.text) ≡ refused number
       unfolding read_guarded word
-      guarded_bodiless number k = rw (g.is, e, drop-drop 2 after s.text, k)
+      guarded_bodiless number k = rw (g.is, e, drop-drop 2 guard.next s.text, k)
 
-      pub guarded-found : (end more : ℕ) (body : Facts) (new : Memory) → Found r s (after + 2) mid (to + extent) end more body new
-          → GuardedFound (read_guarded r) s at old to end (extent + more) guard body new
+      pub guarded-found : (body : Read Measured) (new : Memory) → Found r s (guard.next + 2) mid (to + guard.value.size) body new
+          → GuardedFound (read_guarded r) s at old to
+          (record { value = record { size = guard.value.size + body.value.size; guard = guard.value.facts; body = body.value.facts }; next = body.next }) new
       unfolding read_guarded word
-      guarded-found end more body new f =
+      guarded-found body new f =
           record {
             first = g.formula;
             second = f.formula;
-            is = rw (g.is, e, drop-drop 2 after s.text, f.is);
+            is = rw (g.is, e, drop-drop 2 guard.next s.text, f.is);
             measured = omega (arith, g.measured, f.measured);
             guard_judged = g.judged;
             body_judged = f.judged;
@@ -70,16 +73,10 @@ module _ (s : Setting) (r : Reading Formula) (at : ℕ) (old : Memory) (to : ℕ
             entered = entered_then s.text g.entered (words_goes s.index g.formula) (λ ix. words_size ix s.index g.formula ∙ sym g.measured) f.entered;
           }
 
--- by the answer
-module _ (reader : Reading (Formula × Formula)) (s : Setting) (at : ℕ) (old : Memory) (to : ℕ) (new : Memory) (r : GuardedRead)
-    (t : ToldGuarded reader s at old to r new) where
-  pub guarded_by : (q : GuardedRead) → r ≡ q → ToldGuarded reader s at old to q new
-  guarded_by q e = subst (λ x. ToldGuarded reader s at old to x new) e t
-
 -- quantifiers on a path are no more than the text's bytes
-module _ (reader : Reading (Formula × Formula)) (s : Setting) (at : ℕ) (old : Memory) (to after extent : ℕ) (guard body : Facts) (new : Memory)
-    (p : GuardedFound reader s at old to after extent guard body new) where
-  pub guarded-few : length s.text ≤ 65536 → (guard.quantifiers ≤ 65536) × (body.quantifiers ≤ 65536)
+module _ (reader : Reading (Formula × Formula)) (s : Setting) (at : ℕ) (old : Memory) (to : ℕ) (q : Read Guarded) (new : Memory)
+    (p : GuardedFound reader s at old to q new) where
+  pub guarded-few : length s.text ≤ 65536 → (q.value.guard.quantifiers ≤ 65536) × (q.value.body.quantifiers ≤ 65536)
   unfolding facts_of
   guarded-few h = (
     rw p.guard_judged (omega (arith, quantifiers-size p.first, p.measured, p.after, p.within)),
@@ -124,10 +121,7 @@ module _ (s : Setting) (r : Reading Formula) (c : Side) (at : ℕ) where
   unfolding read_quantifier
   quantifier_nameless e = rw e
 
-  module _ (end : ℕ) (w : NameTaken read_variable s.text at end) where
-    abbrev x : Name
-    x = take (end - at) (drop at s.text)
-
+  module _ (x : Name) (end : ℕ) (w : Taken read_variable s.text at x end) where
     pub quantifier_open : (next (drop end s.text) ≡ 91 → ⊥) → read_quantifier r c (drop at s.text) ≡ refused 5
     unfolding read_quantifier
     quantifier_open h = rw (w.is, byte_refused s.text end 91 (omega arith) 5 h)
@@ -144,18 +138,22 @@ module _ (s : Setting) (r : Reading Formula) (c : Side) (at : ℕ) where
       unfolding within_binding
       quantifier-refused number e = quantifier-is ∙ rw e
 
-      pub quantifier-found : (inner : Name → Bool) → inner ≡ besides x s.bound → (old between work : List ℕ) (to index : ℕ) → NameListed s.text x old between index
-          → (after extent : ℕ) (guard body : Facts) (names mid : List ℕ)
-          → GuardedFound (read_guarded r) (setting s.text inner s.problem s.index) (end + 1) (memory between work) (to + 1) after extent guard body (memory names mid)
-          → ToldBehind (read_quantifier r c) s at (memory old work) to (read.Done after (extent + 1) (quantifier_facts c guard body))
+      abbrev inside : Setting
+      inside = record s { bound = besides x s.bound }
+
+      pub quantifier-found : (inner : Setting) → inner ≡ inside → (old between : NameTable) (work : List ℕ) (to index : ℕ) → NameListed s.text x old between index
+          → (q : Read Guarded) (names : NameTable) (mid : List ℕ) → GuardedFound (read_guarded r) inner (end + 1) (memory between work) (to + 1) q (memory names mid)
+          → ToldBehind (read_quantifier r c) s at (memory old work) to (Ok (read_to (q.value.size + 1) (quantifier_facts c q.value.guard q.value.body) q.next))
           (memory names (set mid to (index * 16 + quantifier_tag c)))
       unfolding size variables known words within_binding
-      quantifier-found inner binds old between work to index listed after extent guard body names mid f reader sign same less =
+      quantifier-found inner binds old between work to index listed q names mid found reader sign same less =
+          let f : GuardedFound (read_guarded r) inside (end + 1) (memory between work) (to + 1) q (memory names mid) =
+          subst (λ i. GuardedFound (read_guarded r) i (end + 1) (memory between work) (to + 1) q (memory names mid)) binds found in
           record {
             formula = quantifier c x f.first f.second;
             is = same ∙ quantifier-is ∙ rw f.is;
             measured = omega (arith, f.measured);
-            judged = rw (f.guard_judged, f.body_judged, binds) (sym (facts_quantifier s.problem s.bound c x f.first f.second));
+            judged = rw (f.guard_judged, f.body_judged) (sym (facts_quantifier s.problem s.bound c x f.first f.second));
             after = omega (arith, w.after, f.after);
             within = f.within;
             entered = entered-index s.text (quantifier_tag c) listed f.entered;

@@ -29,10 +29,11 @@ use Rattle.words.specs.memory.Words.{words, all_words}
 use Rattle.words.proofs.memory.Words.{all_words-sizes}
 use Rattle.terms.specs.memory.Facts.{facts_of}
 use Rattle.terms.specs.memory.NameTable.{settled, extended_by, list_fits}
-use Rattle.terms.specs.memory.Entries.{predicate_index, setting_of, Memory, Entered}
-use Rattle.terms.specs.declared.binding.Scope.{Scope}
+use Rattle.terms.specs.memory.Signature.{signature_of}
+use Rattle.terms.specs.memory.Entries.{setting, predicate_index, Memory, Entered}
 use Rattle.terms.specs.declared.fact.Facts.{Facts}
-use Rattle.terms.proofs.memory.Bindings.{bound-none}
+use Rattle.text.specs.declared.read.Read.{Read}
+use Rattle.reading.specs.declared.read.Measured.{Measured}
 use Rattle.terms.proofs.memory.Signature.{known_table, normal_table}
 use Rattle.terms.proofs.memory.Lists.{byte_read, byte_refused}
 use Rattle.terms.proofs.memory.NameTable.{extended_by_settles}
@@ -51,44 +52,44 @@ module _ (problem : Bytes) (table : Table) (rows : List ℕ) (text : Bytes) (at 
   unfolding read_theory_line level_count
   line_refused number e = rw e
 
-  module _ (scope : Scope) (empty : scope.count ≡ 0) (old : Memory) (to after extent : ℕ) (facts : Facts) (new : Memory)
-      (f : Found (read_formula 32) (setting_of text scope problem table) at old to after extent facts new) where
-    named-is : facts.named ≡ names_fit P f.formula
+  module _ (old : Memory) (to : ℕ) (q : Read Measured) (new : Memory)
+      (f : Found (read_formula 32) (setting text none (signature_of problem table) (predicate_index problem table)) at old to q new) where
+    named-is : q.value.facts.named ≡ names_fit P f.formula
     unfolding facts_of
-    named-is = ap (λ (q : Facts). q.named) f.judged ∙ rw (known_table problem table rows f.formula, bound-none text scope empty)
+    named-is = ap (λ (told : Facts). told.named) f.judged ∙ rw (known_table problem table rows f.formula)
 
-    normal-is : facts.normal ≡ is_gnf P f.formula
+    normal-is : q.value.facts.normal ≡ is_gnf P f.formula
     unfolding facts_of
-    normal-is = ap (λ (q : Facts). q.normal) f.judged ∙ normal_table problem table rows f.formula
+    normal-is = ap (λ (told : Facts). told.normal) f.judged ∙ normal_table problem table rows f.formula
 
-    guarded-is : facts.guarded ≡ guard_quantifiers f.formula
+    guarded-is : q.value.facts.guarded ≡ guard_quantifiers f.formula
     unfolding facts_of
-    guarded-is = ap (λ (q : Facts). q.guarded) f.judged
+    guarded-is = ap (λ (told : Facts). told.guarded) f.judged
 
-    pub line_open : (next (drop after text) ≡ 10 → ⊥) → read_theory_line P (drop at text) ≡ refused 5
+    pub line_open : (next (drop q.next text) ≡ 10 → ⊥) → read_theory_line P (drop at text) ≡ refused 5
     unfolding read_theory_line level_count
-    line_open h = rw (f.is, byte_refused text after 10 (omega arith) 5 h)
+    line_open h = rw (f.is, byte_refused text q.next 10 (omega arith) 5 h)
 
-    module _ (h : next (drop after text) ≡ 10) where
-      pub line_unnamed : facts.named ≡ false → read_theory_line P (drop at text) ≡ refused 7
+    module _ (h : next (drop q.next text) ≡ 10) where
+      pub line_unnamed : q.value.facts.named ≡ false → read_theory_line P (drop at text) ≡ refused 7
       unfolding read_theory_line level_count
-      line_unnamed e = rw (f.is, byte_read text after 10 (omega arith) 5 h, sym named-is ∙ e)
+      line_unnamed e = rw (f.is, byte_read text q.next 10 (omega arith) 5 h, sym named-is ∙ e)
 
-      module _ (named : facts.named ≡ true) where
-        pub line_unnormal : facts.normal ≡ false → read_theory_line P (drop at text) ≡ refused 8
+      module _ (named : q.value.facts.named ≡ true) where
+        pub line_unnormal : q.value.facts.normal ≡ false → read_theory_line P (drop at text) ≡ refused 8
         unfolding read_theory_line level_count
-        line_unnormal e = rw (f.is, byte_read text after 10 (omega arith) 5 h, sym named-is ∙ named, sym normal-is ∙ e)
+        line_unnormal e = rw (f.is, byte_read text q.next 10 (omega arith) 5 h, sym named-is ∙ named, sym normal-is ∙ e)
 
-        pub line-found : facts.normal ≡ true → TheoryLineFound P text (predicate_index problem table) at old to (after + 1) extent facts.guarded new
+        pub line-found : q.value.facts.normal ≡ true → TheoryLineFound P text (predicate_index problem table) at old to (record { value = record { size = q.value.size; guarded = q.value.facts.guarded }; next = q.next + 1 }) new
         unfolding read_theory_line level_count
         line-found e =
             record {
               formula = f.formula;
-              is = rw (f.is, byte_read text after 10 (omega arith) 5 h, sym named-is ∙ named, sym normal-is ∙ e);
+              is = rw (f.is, byte_read text q.next 10 (omega arith) 5 h, sym named-is ∙ named, sym normal-is ∙ e);
               measured = f.measured;
               counted = guarded-is;
               after = omega (arith, f.after);
-              within = (byte_found text after 10 (omega arith) h).within;
+              within = (byte_found text q.next 10 (omega arith) h).within;
               entered = entered_alike text refl
                   (λ k. known_table problem table rows f.formula ∙ and_left (known P f.formula) (closed none f.formula) (sym named-is ∙ named)) (λ ix. refl) f.entered;
             }

@@ -1,19 +1,20 @@
 -- What the code tells of the parts of a connective, and of a quantifier's guard and body, at a place of the theory's text.
-use Rattle.std.specs.Prelude.{ℕ, ◌+◌, ◌≤◌, ◌≡◌, List, ◌++◌, Bool, false, not, ◌&&◌, eqb, length, drop}
+use Rattle.std.specs.Prelude.{ℕ, ◌+◌, ◌≤◌, ◌≡◌, List, ◌++◌, Bool, true, false, not, ◌&&◌, eqb, Result, Ok, Err, length, drop}
 use Rattle.grammar.specs.Bytes.{Bytes, bytes, next}
-use Rattle.grammar.specs.Outcome.{done, refused}
+use Rattle.grammar.specs.Outcome.{done}
 use Rattle.grammar.specs.Reading.{Reading, give, ◌>>=◌, ◌>>◌, word}
 use Rattle.logic.specs.Formula.{Connective, negation, implies, implied_by, equivalent, junction, Formula, parts_of, size, sizes}
 use Rattle.logic.specs.Names.{known, all_known}
 use Rattle.logic.specs.Limits.{variables, all_variables}
 use Rattle.words.specs.memory.Words.{words, all_words}
-use Rattle.terms.specs.memory.Facts.{facts_of, all_facts_of}
+use Rattle.terms.specs.memory.Facts.{simple_facts, beside, facts_of, all_facts_of}
 use Rattle.terms.specs.memory.Entries.{Setting, Memory, Entered}
-use Rattle.terms.specs.declared.fact.Facts.{Facts}
-use Rattle.reading.specs.declared.read.PartsRead.{PartsRead}
-use Rattle.reading.specs.declared.read.PartsRead.TheVariants as parts
-use Rattle.reading.specs.declared.read.GuardedRead.{GuardedRead}
-use Rattle.reading.specs.declared.read.GuardedRead.TheVariants as guarded
+use Rattle.text.specs.declared.read.Read.{Read}
+use Rattle.reading.specs.declared.fault.Fault.{Fault}
+use Rattle.reading.specs.declared.read.Measured.{Measured}
+use Rattle.reading.specs.declared.read.Parts.{Parts}
+use Rattle.reading.specs.declared.read.Guarded.{Guarded}
+use Rattle.reading.specs.memory.FormulaReads.{Refuses}
 
 -- How the parts of a connective are listed and closed.
 
@@ -61,42 +62,47 @@ read_guarded r = do
   f ← r
   give (g, f)
 
+-- what the code tells of no parts, and of parts with one more behind them
+abbrev pub none_told : Parts
+none_told = record { count = 0; size = 0; facts = simple_facts true true }
+
+abbrev pub with_told : Parts → Measured → Parts
+with_told parts one = record { count = parts.count + 1; size = parts.size + one.size; facts = beside parts.facts one.facts }
+
 -- parts are counted, measured, judged and entered
-pub record PartsTaken (s : Setting) (items : List Formula) (count extent : ℕ) (facts : Facts) (old : Memory) (to : ℕ) (new : Memory) : Type 0 where
-  pub counted : count ≡ length items
-  pub measured : extent ≡ sizes (parts_of items)
-  pub judged : facts ≡ all_facts_of s.problem s.bound (parts_of items)
+pub record PartsTaken (s : Setting) (items : List Formula) (parts : Parts) (old : Memory) (to : ℕ) (new : Memory) : Type 0 where
+  pub counted : parts.count ≡ length items
+  pub measured : parts.size ≡ sizes (parts_of items)
+  pub judged : parts.facts ≡ all_facts_of s.problem s.bound (parts_of items)
   pub entered :
       Entered s.text (all_variables (parts_of items)) (all_known s.problem (parts_of items)) (λ ix. all_words ix s.index (parts_of items)) old to new
 
 -- parts are read
-pub record PartsFound (reader : Reading (List Formula)) (s : Setting) (at : ℕ) (old : Memory) (to next extent count : ℕ) (facts : Facts) (new : Memory) : Type 0 where
+pub record PartsFound (reader : Reading (List Formula)) (s : Setting) (at : ℕ) (old : Memory) (to : ℕ) (r : Read Parts) (new : Memory) : Type 0 where
   pub items : List Formula
-  pub is : reader (drop at s.text) ≡ done (items, drop next s.text)
-  pub taken : PartsTaken s items count extent facts old to new
-  pub after : at + extent ≤ next
-  pub within : next ≤ length s.text
+  pub is : reader (drop at s.text) ≡ done (items, drop r.next s.text)
+  pub taken : PartsTaken s items r.value old to new
+  pub after : at + r.value.size ≤ r.next
+  pub within : r.next ≤ length s.text
 
-abbrev pub ToldParts : Reading (List Formula) → Setting → ℕ → Memory → ℕ → PartsRead → Memory → Type 0
-ToldParts reader s at old to (parts.Done next extent count facts) new = PartsFound reader s at old to next extent count facts new
-ToldParts reader s at old to parts.Malformed new = reader (drop at s.text) ≡ refused 5
-ToldParts reader s at old to parts.Deep new = reader (drop at s.text) ≡ refused 6
+abbrev pub ToldParts : Reading (List Formula) → Setting → ℕ → Memory → ℕ → Result (Read Parts) Fault → Memory → Type 0
+ToldParts reader s at old to (Ok r) new = PartsFound reader s at old to r new
+ToldParts reader s at old to (Err fault) new = Refuses reader (drop at s.text) fault
 
 -- a guard and a body are read, measured together, judged each and entered
-pub record GuardedFound (reader : Reading (Formula × Formula)) (s : Setting) (at : ℕ) (old : Memory) (to next extent : ℕ) (guard body : Facts) (new : Memory) : Type 0 where
+pub record GuardedFound (reader : Reading (Formula × Formula)) (s : Setting) (at : ℕ) (old : Memory) (to : ℕ) (r : Read Guarded) (new : Memory) : Type 0 where
   pub first : Formula
   pub second : Formula
-  pub is : reader (drop at s.text) ≡ done ((first, second), drop next s.text)
-  pub measured : extent ≡ size first + size second
-  pub guard_judged : guard ≡ facts_of s.problem s.bound first
-  pub body_judged : body ≡ facts_of s.problem s.bound second
-  pub after : at + extent ≤ next
-  pub within : next ≤ length s.text
+  pub is : reader (drop at s.text) ≡ done ((first, second), drop r.next s.text)
+  pub measured : r.value.size ≡ size first + size second
+  pub guard_judged : r.value.guard ≡ facts_of s.problem s.bound first
+  pub body_judged : r.value.body ≡ facts_of s.problem s.bound second
+  pub after : at + r.value.size ≤ r.next
+  pub within : r.next ≤ length s.text
   pub entered :
       Entered s.text (variables first ++ variables second) (known s.problem first && known s.problem second)
       (λ ix. words ix s.index first ++ words ix s.index second) old to new
 
-abbrev pub ToldGuarded : Reading (Formula × Formula) → Setting → ℕ → Memory → ℕ → GuardedRead → Memory → Type 0
-ToldGuarded reader s at old to (guarded.Done next extent guard body) new = GuardedFound reader s at old to next extent guard body new
-ToldGuarded reader s at old to guarded.Malformed new = reader (drop at s.text) ≡ refused 5
-ToldGuarded reader s at old to guarded.Deep new = reader (drop at s.text) ≡ refused 6
+abbrev pub ToldGuarded : Reading (Formula × Formula) → Setting → ℕ → Memory → ℕ → Result (Read Guarded) Fault → Memory → Type 0
+ToldGuarded reader s at old to (Ok r) new = GuardedFound reader s at old to r new
+ToldGuarded reader s at old to (Err fault) new = Refuses reader (drop at s.text) fault

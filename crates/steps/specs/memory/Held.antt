@@ -1,5 +1,5 @@
 -- The live formulas as memory holds them, and the rule lines on them: 11 to 15, as the code decides them.
-use Rattle.std.specs.Prelude.{ℕ, zero, suc, ◌+◌, List, [], ◌∷◌, Bool, true, false, cond, not, ◌&&◌, eqb, leb, length, get_or, drop}
+use Rattle.std.specs.Prelude.{ℕ, zero, suc, ◌+◌, List, [], ◌∷◌, Option, Some, None, Bool, true, false, cond, not, ◌&&◌, eqb, leb, length, get_or, drop}
 use Rattle.std.specs.Bool.{beq}
 use Rattle.grammar.specs.Bytes.{same}
 use Rattle.grammar.specs.Outcome.{Outcome, done, refused, mapped, provided, ◌>>=◌, ◌>>◌}
@@ -16,8 +16,6 @@ use Rattle.words.specs.declared.word.Sign.{Sign}
 use Rattle.words.specs.declared.word.Sign.TheVariants.{Negation, Implies, ImpliedBy, Equivalent, Junction}
 use Rattle.words.specs.declared.word.Kind.{Kind}
 use Rattle.words.specs.declared.word.Kind.TheVariants as kind
-use Rattle.words.specs.declared.walk.Place.{Place}
-use Rattle.words.specs.declared.walk.Place.TheVariants.{At, Nowhere}
 use Rattle.guards.specs.memory.Admitted.{guard_closed, admitted_flags}
 use Rattle.clauses.specs.memory.Clauses.{all_at, clause_at}
 use Rattle.formula.specs.memory.Rewriting.{end_within, rewritten_words}
@@ -36,9 +34,9 @@ pub record Held : Type 0 where
 abbrev pub held : List ℕ → List ℕ → ℕ → Bool → Held
 held words names top ended = record { words = words; names = names; top = top; ended = ended }
 
-abbrev pub reached : Place → Outcome ℕ ℕ
-reached (At j) = done j
-reached Nowhere = refused 12
+abbrev pub reached : Option ℕ → Outcome ℕ ℕ
+reached (Some j) = done j
+reached None = refused 12
 
 -- the index of a name, 11; and the place of a path in its formula, 12
 unfoldable pub target_in : Held → Position → Outcome ℕ (ℕ × ℕ)
@@ -56,11 +54,11 @@ unfoldable pub whole_in : Held → Position → Outcome ℕ (ℕ × ℕ)
 whole_in m p = target_in m p >>= λ t. provided (is_empty p.path) 13 >> (provided (not m.ended) 13 >> done t)
 
 -- the number that a decision is refused with; 0 where the rule fits
-abbrev pub misfit : Fit → List ℕ → ℕ
-misfit (fit.Value b) s = 0
-misfit (fit.Junction every) s = 0
-misfit fit.Quantifier s = cond (guard_closed 32 s) 0 14
-misfit fit.Misfit s = 13
+abbrev pub misfit : Option Fit → List ℕ → ℕ
+misfit (Some (fit.Value b)) s = 0
+misfit (Some (fit.Junction every)) s = 0
+misfit (Some fit.Quantifier) s = cond (guard_closed 32 s) 0 14
+misfit None s = 13
 
 abbrev pub unless_refused : {A : Type 0} → ℕ → Outcome ℕ A → Outcome ℕ A
 unless_refused zero o = o
@@ -71,7 +69,7 @@ abbrev pub exchanged : List ℕ → ℕ → ℕ → List ℕ → List ℕ
 exchanged s at end new = spliced s at end (length s) new
 
 -- with what was decided done at a place: 15
-unfoldable pub sized_in : Held → ℕ → Fit → List Bool → Outcome ℕ Held
+unfoldable pub sized_in : Held → ℕ → Option Fit → List Bool → Outcome ℕ Held
 sized_in m at decided flags =
     let words = exchanged m.words at (end_within m.words at (length m.words)) (rewritten_words decided m.words at (length m.words) flags) in
     provided (leb (length words) 4096) 15 >> done (held words m.names m.top false)

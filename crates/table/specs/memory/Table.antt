@@ -1,9 +1,10 @@
 -- The problem that a table of places in a text, and numbers in lent memory, stand for.
-use Rattle.std.specs.Prelude.{ℕ, suc, zero, ◌+◌, ◌-◌, ◌*◌, ◌/◌, ◌%◌, ◌≡◌, List, [], ◌∷◌, map, Bool, false, cond, ◌||◌, eqb, length, get_or, take, drop, set}
+use Rattle.std.specs.Prelude.{ℕ, suc, zero, ◌+◌, ◌-◌, ◌*◌, ◌/◌, ◌%◌, ◌≡◌, List, [], ◌∷◌, map, Bool, false, Option, cond, ◌||◌, eqb, ltb, length, get_or, take, drop, set}
+use Rattle.std.specs.Bool.{then_some}
 use Rattle.grammar.specs.Bytes.{Bytes, same}
-use Rattle.grammar.specs.Outcome.{done, refused}
-use Rattle.grammar.specs.Lines.{Judged, refusal}
 use Rattle.grammar.specs.Problem.{Name, Row, Predicate, Input, Problem}
+use Rattle.text.specs.declared.name.Name.{Name as Place}
+use Rattle.table.specs.declared.table.Predicate.{Predicate as Entry}
 use Rattle.table.specs.declared.table.Table.{Table}
 
 -- one number for a row, in base 256
@@ -45,23 +46,40 @@ unfoldable pub indexed : {A : Type 0} → (ℕ → A) → ℕ → ℕ → List A
 indexed f i zero = []
 indexed f i (suc count) = f i ∷ indexed f (suc i) count
 
-module _ (text : Bytes) (table : Table) where
-  abbrev pub table_name : ℕ → Name
-  table_name i = take (get_or table.size i 0) (drop (get_or table.start i 0) text)
+-- what stands where there is no predicate
+abbrev pub nothing : Entry
+nothing = record { name = record { start = 0; size = 0 }; arity = 0; first = 0; rows = 0 }
 
-  abbrev pub table_names : List Name
-  table_names = indexed table_name 0 table.count
+-- what a table has at an index
+abbrev pub entry : Table → ℕ → Entry
+entry table i = get_or table.predicates i nothing
 
-  abbrev pub table_predicate : ℕ → Predicate
-  table_predicate i = record { name = table_name i; arity = get_or table.arity i 0 }
+module _ (text : Bytes) where
+  -- a name by its place in a text
+  abbrev pub name_at : Place → Name
+  name_at place = take place.size (drop place.start text)
+
+  module _ (table : Table) where
+    abbrev pub table_name : ℕ → Name
+    table_name i = name_at (entry table i).name
+
+    abbrev pub table_names : List Name
+    table_names = indexed table_name 0 table.count
+
+    -- the index of the predicate that has a name, if there is one
+    abbrev pub found : Name → Option ℕ
+    found p = then_some (ltb (position p table_names) table.count) (position p table_names)
+
+    abbrev pub table_predicate : ℕ → Predicate
+    table_predicate i = record { name = table_name i; arity = (entry table i).arity }
 
 -- the numbers of an input's rows
 abbrev pub table_numbers : Table → List ℕ → ℕ → List ℕ
-table_numbers table rows i = take (get_or table.rows i 0) (drop (get_or table.first i 0) rows)
+table_numbers table rows i = take (entry table i).rows (drop (entry table i).first rows)
 
 module _ (text : Bytes) (table : Table) (rows : List ℕ) where
   abbrev pub table_input : ℕ → Input
-  table_input i = record { predicate = table_predicate text table i; rows = map (unpacked (get_or table.arity i 0)) (table_numbers table rows i) }
+  table_input i = record { predicate = table_predicate text table i; rows = map (unpacked (entry table i).arity) (table_numbers table rows i) }
 
   unfoldable pub problem_in : Problem
   problem_in =
@@ -71,71 +89,28 @@ module _ (text : Bytes) (table : Table) (rows : List ℕ) where
         outputs = indexed (table_predicate text table) table.inputs (table.count - table.inputs);
       }
 
--- a problem, or the number and line that a text is refused with
-unfoldable pub outcome_of : ℕ → ℕ → Problem → Judged Problem
-outcome_of zero line P = done P
-outcome_of (suc number) line P = refused (refusal (suc number) 1 line)
-
--- every column has its length
-pub record Columns (table : Table) : Type 0 where
-  pub starts : length table.start ≡ 32
-  pub sizes : length table.size ≡ 32
-  pub arities : length table.arity ≡ 32
-  pub firsts : length table.first ≡ 32
-  pub counts : length table.rows ≡ 32
+-- there is room for every predicate
+abbrev pub Sized : Table → Type 0
+Sized table = length table.predicates ≡ 32
 
 -- a domain of so many elements
 abbrev pub with_domain : Table → ℕ → Table
-with_domain table n =
-    record {
-      domain = n;
-      inputs = table.inputs;
-      count = table.count;
-      start = table.start;
-      size = table.size;
-      arity = table.arity;
-      first = table.first;
-      rows = table.rows;
-    }
+with_domain table n = record { domain = n; inputs = table.inputs; count = table.count; predicates = table.predicates }
 
--- a name and an arity entered behind the predicates
-abbrev pub with_name : Table → ℕ → ℕ → ℕ → Table
-with_name table start size arity =
-    record {
-      domain = table.domain;
-      inputs = table.inputs;
-      count = table.count;
-      start = set table.start table.count start;
-      size = set table.size table.count size;
-      arity = set table.arity table.count arity;
-      first = table.first;
-      rows = table.rows;
-    }
+-- what is entered behind the predicates
+abbrev pub with_entry : Table → Entry → Table
+with_entry table e = record { domain = table.domain; inputs = table.inputs; count = table.count; predicates = set table.predicates table.count e }
+
+-- a name and an arity entered there
+abbrev pub with_name : Table → Place → ℕ → Table
+with_name table name arity =
+    with_entry table (record { name = name; arity = arity; first = (entry table table.count).first; rows = (entry table table.count).rows })
 
 -- and the place and the count of its rows
 abbrev pub with_rows : Table → ℕ → ℕ → Table
 with_rows table first rows =
-    record {
-      domain = table.domain;
-      inputs = table.inputs;
-      count = table.count;
-      start = table.start;
-      size = table.size;
-      arity = table.arity;
-      first = set table.first table.count first;
-      rows = set table.rows table.count rows;
-    }
+    with_entry table (record { name = (entry table table.count).name; arity = (entry table table.count).arity; first = first; rows = rows })
 
 -- so many inputs, and so many predicates in all
 abbrev pub counted : Table → ℕ → ℕ → Table
-counted table inputs count =
-    record {
-      domain = table.domain;
-      inputs = inputs;
-      count = count;
-      start = table.start;
-      size = table.size;
-      arity = table.arity;
-      first = table.first;
-      rows = table.rows;
-    }
+counted table inputs count = record { domain = table.domain; inputs = inputs; count = count; predicates = table.predicates }

@@ -12,6 +12,7 @@ use Rattle.grammar.specs.Bytes.{Bytes}
 use Rattle.grammar.specs.Problem.{Name}
 use Rattle.grammar.specs.Each.{Each}
 use Rattle.grammar.proofs.Laws.{and_left, and_right, each_weaken, sets_append}
+use Rattle.terms.specs.declared.name_table.NameTable.{NameTable}
 use Rattle.terms.specs.memory.NameTable.{settled, extended, extended_by, index_in, names_in, NameListed}
 use Rattle.terms.specs.memory.Entries.{Memory, memory, Entered}
 use Rattle.terms.proofs.memory.NameTable.{extended_settles, extended_by-append, extended_by_settles, index-extended_by}
@@ -63,7 +64,7 @@ module _ (text : Bytes) where
       }
 
   -- behind a word
-  pub entered_header : {variables : List Name} {known : Bool} {words : (Name → ℕ) → List ℕ} {old : Memory} {to : ℕ} {names mid : List ℕ} (word : ℕ)
+  pub entered_header : {variables : List Name} {known : Bool} {words : (Name → ℕ) → List ℕ} {old : Memory} {to : ℕ} {names : NameTable} {mid : List ℕ} (word : ℕ)
       → Entered text variables known words old (to + 1) (memory names mid) → Entered text variables known (λ ix. word ∷ words ix) old to (memory names (set mid to word))
   entered_header {words = words} {old} {to} {names} {mid} word e =
       record {
@@ -72,11 +73,11 @@ module _ (text : Bytes) where
       }
 
   -- behind a word that has the index of a variable, listed before
-  pub entered-index : {x : Name} {variables : List Name} {known : Bool} {words : (Name → ℕ) → List ℕ} {old between work names mid : List ℕ} {to index : ℕ} (tag : ℕ)
+  pub entered-index : {x : Name} {variables : List Name} {known : Bool} {words : (Name → ℕ) → List ℕ} {old between names : NameTable} {work mid : List ℕ} {to index : ℕ} (tag : ℕ)
       → NameListed text x old between index → Entered text variables known words (memory between work) (to + 1) (memory names mid)
       → Entered text (x ∷ variables) known (λ ix. (ix x * 16 + tag) ∷ words ix) (memory old work) to (memory names (set mid to (index * 16 + tag)))
   unfolding extended_by
-  entered-index {x} {variables} {words = words} {old} {between} {work} {names} {mid} {to} {index} tag listed e =
+  entered-index {x} {variables} {words = words} {old} {between} {names} {work} {mid} {to} {index} tag listed e =
       let whole : names_in text names ≡ extended_by (extended (names_in text old) x) variables = e.names ∙ rw listed.names in
       record {
         names = whole;

@@ -1,25 +1,29 @@
 -- The variables' table: a name's index does not change any more once the name was put into the table, or found it full; what the table's
 -- memory holds with a name more.
 -- Assumes nothing.
-use Prim.Native.Nat.{ℕ, zero, suc, ◌+◌, ◌*◌, ◌-◌, ◌≤◌, ◌<◌, min}
-use native.Mathlib.Numerals.{add-one, sub-one}
+use Prim.Native.Nat.{ℕ, suc, ◌+◌, ◌≤◌, ◌<◌, min}
 use native.Mathlib.Omega.{arith}
-use mathlib.Core.Path.{◌≡◌, refl, sym, ap, ap₂, ◌∙◌}
+use mathlib.Core.Path.{◌≡◌, refl, sym, ap, ◌∙◌}
 use mathlib.Core.List.{List, [], ◌∷◌, ◌++◌}
-use mathlib.Core.Bool.{Bool, true, false, cond, ◌||◌, or-true, false≢true}
+use mathlib.Core.Bool.{Bool, true, false, not, cond, ◌||◌, or-true, false≢true}
 use lib.Dec.{leb, ltb, leb-suc-suc}
-use lib.ListN.{length, get_or, take, drop, set, length-set}
-use lib.Seq.{get_or-set_same, get_or-set_other}
-use borrow.Author.Tests.{le-leb, lt-leb, lt-ltb, le-ltb}
+use lib.ListN.{length, take}
+use borrow.Author.Tests.{le-leb, lt-leb, lt-ltb, le-ltb, leb-true, leb-false, ltb-true, ltb-false}
+use Rattle.std.specs.Prelude.{Option, Some, None, MatchOption}
+use Rattle.std.specs.List.{list_all, position_or_len, position as first_place}
+use Rattle.std.proofs.lemmas.List.{length-map, length-take, map-append, take_more_set}
+use Rattle.std.proofs.lemmas.List.Sums.{prefix_len-le-length}
+use Rattle.std.proofs.lemmas.List.Recursion.{is_position_or_len}
 use Rattle.grammar.specs.Sizes.{name_size, variable_count}
 use Rattle.grammar.specs.Bytes.{Bytes, same, member}
 use Rattle.grammar.specs.Problem.{Name}
 use Rattle.grammar.specs.Each.{Each}
 use Rattle.grammar.proofs.Laws.{or_left, or_right, same_refl, member-append}
 use Rattle.logic.specs.Limits.{names_short}
-use Rattle.table.specs.memory.Table.{position, indexed}
-use Rattle.table.proofs.Tables.{length-indexed, indexed-append, indexed_agree}
-use Rattle.terms.specs.memory.NameTable.{settled, extended, extended_by, index_in, name_in, names_in, with_name, NameListed, list_fits}
+use Rattle.text.specs.declared.name.Name.{Name as Place}
+use Rattle.terms.specs.declared.name_table.NameTable.{NameTable}
+use Rattle.table.specs.memory.Table.{position, name_at}
+use Rattle.terms.specs.memory.NameTable.{settled, extended, extended_by, index_in, names_of, names_in, HasAdded, NameListed, list_fits}
 
 -- Places and members of a list.
 
@@ -121,129 +125,125 @@ extended_by_settles (x ∷ xs) names =
 
 -- The table in memory.
 
-pub length-names_in : (text : Bytes) (memory : List ℕ) → length (names_in text memory) ≡ min (get_or memory 0 0) 65
-unfolding names_in
-length-names_in text memory = length-indexed (name_in text memory) (min (get_or memory 0 0) 65) 0
+-- a name's place in a table, as the code looks for it
+module _ (text : Bytes) (x : Name) where
+  abbrev pub is_name : Place → Bool
+  is_name place = same x (name_at text place)
 
-pub names_in-first : (text : Bytes) (memory : List ℕ) (x : Name) (count : ℕ) → count ≡ min (get_or memory 0 0) 65
-    → position x (names_in text memory) ≡ 0 + position x (indexed (name_in text memory) 0 (count - 0))
-unfolding names_in
-names_in-first text memory x count e =
-    let k : count - 0 ≡ count = omega arith in
-    rw (k, ← e) (omega arith)
+  position_places : (places : List Place) → position x (names_of text places) ≡ position_or_len is_name places
+  unfolding position
+  position_places =
+      is_position_or_len (λ places. position x (names_of text places)) is_name refl λ place places. pick (is_name place) (position x (names_of text places))
+    where
+      pick : (b : Bool) (n : ℕ) → cond b 0 (suc n) ≡ cond b 0 (1 + n)
+      pick true n = refl
+      pick false n = omega arith
 
-module _ (text : Bytes) (at size : ℕ) (old : List ℕ) where
+  found : (places : List Place) (r : Option ℕ) → r ≡ first_place is_name places
+      → MatchOption r (position x (names_of text places) ≡ length places) (λ i. (i ≡ position x (names_of text places)) × (i < length places))
+  found places = rw (position_places places) (pick (position_or_len is_name places) (prefix_len-le-length (λ place. not (is_name place)) places))
+    where
+      pick : (n : ℕ) → n ≤ length places → (r : Option ℕ) → r ≡ cond (ltb n (length places)) (Some n) None
+          → MatchOption r (n ≡ length places) (λ i. (i ≡ n) × (i < length places))
+      pick n h (Some i) e = pick_some (ltb n (length places)) refl
+        where
+          pick_some : (b : Bool) → ltb n (length places) ≡ b → (i ≡ n) × (i < length places)
+          pick_some true t = let k : Some i ≡ Some n = e ∙ rw t in let m : i ≡ n = cc in (m, omega (arith, ltb-true n (length places) t))
+          pick_some false t = let k : Some i ≡ None = e ∙ rw t in cc
+      pick n h None e = pick_none (ltb n (length places)) refl
+        where
+          pick_none : (b : Bool) → ltb n (length places) ≡ b → n ≡ length places
+          pick_none true t = let k : None ≡ Some n = e ∙ rw t in cc
+          pick_none false t = omega (arith, ltb-false n (length places) t)
+
+module _ (text : Bytes) (table : NameTable) (whole : length table.names ≡ 65) where
+  counted : length (take table.count table.names) ≡ min table.count 65
+  counted = rw (length-take table.count table.names, whole)
+
+  pub length-names_in : length (names_in text table) ≡ min table.count 65
+  unfolding names_in
+  length-names_in = rw (length-map (take table.count table.names) (name_at text)) counted
+
+  pub found_in : (x : Name) (r : Option ℕ) → r ≡ first_place (is_name text x) (take table.count table.names)
+      → MatchOption r (position x (names_in text table) ≡ min table.count 65) (λ i. (i ≡ position x (names_in text table)) × (i < min table.count 65))
+  unfolding names_in
+  found_in x r e = rw counted at (found text x (take table.count table.names) r e)
+
+module _ (text : Bytes) (place : Place) (old : NameTable) (whole : length old.names ≡ 65) where
   abbrev x : Name
-  x = take size (drop at text)
+  x = name_at text place
 
-  -- i is the name's place, as it was found
-  module _ (i : ℕ) (found : i ≡ position x (names_in text old)) where
-    small : i ≤ 65
-    small = omega (arith, found, length-names_in text old, position-within x (names_in text old))
+  listed_same : (i : ℕ) → i ≤ 65 → i ≡ position x (names_in text old) → settled (names_in text old) x ≡ true → NameListed text x old old i
+  listed_same i small e settles = record { names = sym (extended_there (names_in text old) x settles); is = e; small = small }
 
-    listed_same : settled (names_in text old) x ≡ true → NameListed text x old old i
-    listed_same e = record { names = sym (extended_there (names_in text old) x e); is = found; small = small }
+  pub listed_there : (i : ℕ) → i ≡ position x (names_in text old) → i < min old.count 65 → NameListed text x old old i
+  listed_there i e h =
+      listed_same i (omega arith) e
+      (rw (
+        member-position x (names_in text old),
+        lt-ltb (position x (names_in text old)) (length (names_in text old)) (omega (arith, length-names_in text old whole)),
+      ))
 
-    pub listed_there : i < min (get_or old 0 0) 65 → NameListed text x old old i
-    listed_there h =
-        listed_same
-        (rw (
+  -- it is stored behind the others, if there is room
+  module _ (absent : position x (names_in text old) ≡ min old.count 65) (new : NameTable) (index : ℕ) (added : HasAdded place old new index) where
+    names_new : old.count < 65 → names_in text new ≡ names_in text old ++ (x ∷ [])
+    unfolding names_in
+    names_new room =
+        rw ((added.room room).0, (added.room room).1, take_more_set old.names old.count place (omega arith))
+        (map-append (name_at text) (take old.count old.names) (place ∷ []))
+
+    names_full : 65 ≤ old.count → names_in text new ≡ names_in text old
+    unfolding names_in
+    names_full full = rw ((added.full full).0, (added.full full).1)
+
+    unsettled : old.count < 65 → settled (names_in text old) x ≡ false
+    unsettled room =
+        let long = length-names_in text old whole in
+        rw (
           member-position x (names_in text old),
-          lt-ltb (position x (names_in text old)) (length (names_in text old)) (omega (arith, found, length-names_in text old)),
-        ))
+          le-ltb (position x (names_in text old)) (length (names_in text old)) (omega arith),
+          lt-leb 65 (length (names_in text old)) (omega arith),
+        )
 
-    pub listed-full : 65 ≤ i → NameListed text x old old i
-    listed-full h =
-        listed_same
-        (rw (le-leb 65 (length (names_in text old)) (omega (arith, found, position-within x (names_in text old)))) (or-true (member x (names_in text old))))
+    own : position x (x ∷ []) ≡ 0
+    unfolding position
+    own = rw (same_refl x)
 
-    -- it is stored behind the others
-    module _ (long : length old ≡ 131) (absent : min (get_or old 0 0) 65 ≤ i) (room : i < 65) where
-      abbrev new : List ℕ
-      new = with_name old i at size
+    pub listed_new : NameListed text x old new index
+    listed_new = pick (leb 65 old.count) refl
+      where
+        long : length (names_in text old) ≡ min old.count 65
+        long = length-names_in text old whole
 
-      number_new : (j : ℕ) → (j ≡ 0 → ⊥) → (j ≡ 2 * i + 1 → ⊥) → (j ≡ 2 * i + 1 + 1 → ⊥) → get_or new j 0 ≡ get_or old j 0
-      number_new j a b c =
-          get_or-set_other (set (set old (2 * i + 1) at) (2 * i + 1 + 1) size) 0 j (i + 1) 0 a
-          ∙ get_or-set_other (set old (2 * i + 1) at) (2 * i + 1 + 1) j size 0 c ∙ get_or-set_other old (2 * i + 1) j at 0 b
+        pick : (b : Bool) → leb 65 old.count ≡ b → NameListed text x old new index
+        pick true e =
+            let full = leb-true 65 old.count e in
+            record {
+              names = names_full full ∙ sym (extended_there (names_in text old) x (rw (le-leb 65 (length (names_in text old)) (omega (arith, long))) (or-true (member x (names_in text old)))));
+              is = rw (names_full full) (added.is ∙ sym absent);
+              small = omega (arith, added.is);
+            }
+        pick false e =
+            let room = leb-false 65 old.count e in
+            record {
+              names = names_new room ∙ sym (extended_new (names_in text old) x (unsettled room));
+              is = rw (names_new room, position-append x (names_in text old) (x ∷ []), or_left (member x (names_in text old)) _ (unsettled room))
+                  (omega (arith, long, added.is, own));
+              small = omega (arith, added.is);
+            }
 
-      name_old : (k : ℕ) → k < 0 + i → name_in text new k ≡ name_in text old k
-      name_old k less =
-          ap₂ (λ s l. take l (drop s text))
-          (number_new (2 * k + 1) (λ e. omega arith) (λ e. omega arith) (λ e. omega arith))
-          (number_new (2 * k + 1 + 1) (λ e. omega arith) (λ e. omega arith) (λ e. omega arith))
+-- The names' sizes.
 
-      name_new : name_in text new i ≡ x
-      name_new =
-          ap₂ (λ s l. take l (drop s text))
-          (get_or-set_other (set (set old (2 * i + 1) at) (2 * i + 1 + 1) size) 0 (2 * i + 1) (i + 1) 0 (λ e. omega arith)
-          ∙ get_or-set_other (set old (2 * i + 1) at) (2 * i + 1 + 1) (2 * i + 1) size 0 (λ e. omega arith)
-          ∙ get_or-set_same old (2 * i + 1) at 0 (omega arith))
-          (get_or-set_other (set (set old (2 * i + 1) at) (2 * i + 1 + 1) size) 0 (2 * i + 1 + 1) (i + 1) 0 (λ e. omega arith)
-          ∙ get_or-set_same (set old (2 * i + 1) at) (2 * i + 1 + 1) size 0 (rw length-set (omega arith)))
+short_places : (text : Bytes) (places : List Place) → names_short (names_of text places) ≡ list_all (λ place. leb (length (name_at text place)) name_size) places
+short_places text [] = refl
+short_places text (place ∷ places) = rw (short_places text places)
 
-      count_new : min (get_or new 0 0) 65 ≡ i + 1
-      count_new =
-          rw (get_or-set_same (set (set old (2 * i + 1) at) (2 * i + 1 + 1) size) 0 (i + 1) 0 (rw (length-set, length-set) (omega arith))) (omega arith)
-
-      last : i ≡ min (get_or old 0 0) 65
-      last = omega (arith, found, length-names_in text old, position-within x (names_in text old))
-
-      alone_new : indexed (name_in text new) (0 + i) 1 ≡ x ∷ []
-      unfolding indexed
-      alone_new = ap (λ (y : Name). y ∷ []) (ap (name_in text new) (omega arith) ∙ name_new)
-
-      names_new : names_in text new ≡ names_in text old ++ (x ∷ [])
-      unfolding names_in
-      names_new =
-          rw (count_new, ← indexed-append (name_in text new) i 1 0, ← last)
-          (ap₂ ◌++◌ (indexed_agree (name_in text new) (name_in text old) i 0 (λ k low less. name_old k less)) alone_new)
-
-      unsettled : settled (names_in text old) x ≡ false
-      unsettled =
-          rw (
-            member-position x (names_in text old),
-            le-ltb (position x (names_in text old)) (length (names_in text old)) (omega (arith, found, length-names_in text old)),
-            lt-leb 65 (length (names_in text old)) (omega (arith, last, length-names_in text old)),
-          )
-
-      own : position x (x ∷ []) ≡ 0
-      unfolding position
-      own = rw (same_refl x)
-
-      pub listed_new : NameListed text x old new i
-      listed_new =
-          record {
-            names = names_new ∙ sym (extended_new (names_in text old) x unsettled);
-            is = rw (names_new, position-append x (names_in text old) (x ∷ []), or_left (member x (names_in text old)) _ unsettled)
-                (omega (arith, last, length-names_in text old, own));
-            small = small;
-          }
-
--- The names' sizes, one by one.
-
-module _ (f : ℕ → Name) (i : ℕ) where
-  pub short_none : (n : ℕ) → n ≡ 0 → names_short (indexed f i n) ≡ true
-  unfolding indexed
-  short_none n e = rw e
-
-  pub short-stop : (n : ℕ) → 0 < n → leb (length (f i)) name_size ≡ false → names_short (indexed f i n) ≡ false
-  unfolding indexed
-  short-stop zero h e = absurd (omega arith)
-  short-stop (suc n) h e = rw e
-
-  pub short-next : (n : ℕ) → 0 < n → leb (length (f i)) name_size ≡ true → names_short (indexed f i n) ≡ names_short (indexed f (i + 1) (n - 1))
-  unfolding indexed
-  short-next zero h e = absurd (omega arith)
-  short-next (suc n) h e = rw (e, add-one i, sub-one (suc n))
-
-module _ (text : Bytes) (memory : List ℕ) (count : ℕ) (counted : count ≡ min (get_or memory 0 0) 65) where
-  pub fits-few : 64 < count → false ≡ list_fits (names_in text memory)
-  unfolding variable_count
-  fits-few h = rw (lt-leb (length (names_in text memory)) 64 (omega (arith, length-names_in text memory)))
-
-  pub fits-short : count ≤ 64 → list_fits (names_in text memory) ≡ names_short (indexed (name_in text memory) 0 (count - 0))
+module _ (text : Bytes) (table : NameTable) (whole : length table.names ≡ 65) where
+  pub fits_few : table.count ≤ 64 → list_fits (names_in text table) ≡ list_all (λ place. leb (length (name_at text place)) name_size) (take table.count table.names)
   unfolding variable_count names_in
-  fits-short h =
-      let k : count - 0 ≡ count = omega arith in
-      rw (le-leb (length (names_in text memory)) 64 (omega (arith, length-names_in text memory)), k, counted)
+  fits_few h =
+      rw (le-leb (length (names_in text table)) 64 (omega (arith, length-names_in text table whole))) (short_places text (take table.count table.names))
+
+  pub fits-many : 64 < table.count → list_fits (names_in text table) ≡ false
+  unfolding variable_count
+  fits-many h = rw (lt-leb (length (names_in text table)) 64 (omega (arith, length-names_in text table whole)))

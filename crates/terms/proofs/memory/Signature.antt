@@ -1,12 +1,13 @@
 -- The problem's predicates, looked at one after the other; and what is read and judged by them alone.
 -- Assumes nothing.
-use Prim.Native.Nat.{ℕ, zero, suc, ◌+◌, ◌-◌, ◌≤◌, ◌<◌, max}
-use native.Mathlib.Numerals.{add-one, sub-one}
+use Prim.Native.Nat.{ℕ, zero, suc, ◌+◌, ◌-◌, ◌≤◌, max}
+use native.Mathlib.Numerals.{add-one}
 use native.Mathlib.Omega.{arith}
 use mathlib.Core.Path.{◌≡◌, refl, sym, ap, ap₂, ◌∙◌}
 use mathlib.Core.List.{List, [], ◌++◌}
-use mathlib.Core.Bool.{Bool, true, false, ◌&&◌}
+use mathlib.Core.Bool.{◌&&◌}
 use lib.Dec.{eqb}
+use Rattle.std.specs.List.{list_any, range_with_len}
 use Rattle.grammar.specs.Bytes.{Bytes, same}
 use Rattle.grammar.specs.Problem.{Name, Predicate, Problem, input_predicates, predicates, named, declared, is_input}
 use Rattle.logic.specs.Formula.{Side, all, negation, implies, implied_by, equivalent, junction, Formula, truth, atom, equal, connective, quantifier, Formulas, no_parts, part}
@@ -40,47 +41,30 @@ pub position_table : (problem : Bytes) (table : Table) (p : Name) → position p
 position_table problem table p =
     omega (arith, position-within p (table_names problem table), length-indexed (table_name problem table) table.count 0)
 
--- by the table's columns, all of them to begin with
+-- by the indices of the table
+module _ (f : ℕ → Predicate) (p : Name) where
+  named_indexed : (n i : ℕ) → list_any (λ k. same p (f k).name) (range_with_len i n) ≡ named (indexed f i n) p
+  unfolding indexed
+  named_indexed zero i = refl
+  named_indexed (suc n) i = rw (named_indexed n (i + 1), add-one i)
+
+  declared_indexed : (arity n i : ℕ) → list_any (λ k. same p (f k).name && eqb (f k).arity arity) (range_with_len i n) ≡ declared (indexed f i n) p arity
+  unfolding indexed
+  declared_indexed arity zero i = refl
+  declared_indexed arity (suc n) i = rw (declared_indexed arity n (i + 1), add-one i)
+
 module _ (problem : Bytes) (table : Table) (p : Name) where
-  pub input_first : is_input (signature_of problem table) p ≡ named (indexed (table_predicate problem table) 0 (table.inputs - 0)) p
+  pub input_in_table : list_any (λ i. same p (table_name problem table i)) (range_with_len 0 table.inputs) ≡ is_input (signature_of problem table) p
   unfolding signature_of
-  input_first = let z : table.inputs - 0 ≡ table.inputs = omega arith in rw (z, inputs_table problem table [])
+  input_in_table = named_indexed (table_predicate problem table) p table.inputs 0 ∙ ap (λ l. named l p) (sym (inputs_table problem table []))
 
-  pub declared-first : (count arity : ℕ) → count ≡ max table.inputs table.count
-      → declared (predicates (signature_of problem table)) p arity ≡ declared (indexed (table_predicate problem table) 0 (count - 0)) p arity
+  pub declared_in_table : (arity : ℕ)
+      → list_any (λ i. same p (table_name problem table i) && eqb (table_predicate problem table i).arity arity) (range_with_len 0 (max table.inputs table.count))
+      ≡ declared (predicates (signature_of problem table)) p arity
   unfolding signature_of
-  declared-first count arity e = let z : count - 0 ≡ count = omega arith in rw (z, predicates_table problem table [], e)
-
-module _ (f : ℕ → Predicate) (i : ℕ) (p : Name) where
-  pub named_none : (n : ℕ) → n ≡ 0 → named (indexed f i n) p ≡ false
-  unfolding indexed
-  named_none n e = rw e
-
-  pub named_here : (n : ℕ) → 0 < n → (b : Bool) → b ≡ same p (f i).name → b ≡ true → named (indexed f i n) p ≡ true
-  unfolding indexed
-  named_here zero h b told e = absurd (omega arith)
-  named_here (suc n) h b told e = rw (sym told ∙ e)
-
-  pub named-next : (n : ℕ) → 0 < n → (b : Bool) → b ≡ same p (f i).name → b ≡ false → named (indexed f i n) p ≡ named (indexed f (i + 1) (n - 1)) p
-  unfolding indexed
-  named-next zero h b told e = absurd (omega arith)
-  named-next (suc n) h b told e = rw (sym told ∙ e, add-one i, sub-one (suc n))
-
-  module _ (arity : ℕ) where
-    pub declared-none : (n : ℕ) → n ≡ 0 → declared (indexed f i n) p arity ≡ false
-    unfolding indexed
-    declared-none n e = rw e
-
-    pub declared-here : (n : ℕ) → 0 < n → (b : Bool) → b ≡ (same p (f i).name && eqb (f i).arity arity) → b ≡ true → declared (indexed f i n) p arity ≡ true
-    unfolding indexed
-    declared-here zero h b told e = absurd (omega arith)
-    declared-here (suc n) h b told e = rw (sym told ∙ e)
-
-    pub declared-next : (n : ℕ) → 0 < n → (b : Bool) → b ≡ (same p (f i).name && eqb (f i).arity arity) → b ≡ false
-        → declared (indexed f i n) p arity ≡ declared (indexed f (i + 1) (n - 1)) p arity
-    unfolding indexed
-    declared-next zero h b told e = absurd (omega arith)
-    declared-next (suc n) h b told e = rw (sym told ∙ e, add-one i, sub-one (suc n))
+  declared_in_table arity =
+      declared_indexed (table_predicate problem table) p arity (max table.inputs table.count) 0
+      ∙ ap (λ l. declared l p arity) (sym (predicates_table problem table []))
 
 -- Reading asks for no rows: 7 and 8 are the same in every problem of the table.
 

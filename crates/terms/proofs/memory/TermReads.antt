@@ -2,7 +2,7 @@
 -- Assumes nothing.
 use Prim.Native.Nat.{ℕ, suc, ◌+◌, ◌-◌, ◌*◌, ◌≤◌, ◌<◌}
 use native.Mathlib.Omega.{arith}
-use mathlib.Core.Path.{◌≡◌, refl, sym, ap, ap₂, subst, ◌∙◌}
+use mathlib.Core.Path.{◌≡◌, refl, sym, ap, ap₂, ◌∙◌}
 use mathlib.Core.List.{List, [], ◌∷◌, ◌++◌, append-nil, append_assoc}
 use mathlib.Core.Bool.{Bool, true, false, not, ◌&&◌, ◌||◌, and-true, and-false, and_assoc, false≢true}
 use lib.Dec.{leb}
@@ -23,19 +23,18 @@ use Rattle.logic.specs.Reading.{read_variable, read_term}
 use Rattle.logic.specs.Names.{term_known, terms_known, term_closed, terms_closed}
 use Rattle.logic.specs.Limits.{term_variables, terms_variables}
 use Rattle.logic.proofs.Reading.{reads-term}
+use Rattle.std.specs.Prelude.{Option, Some, None}
+use Rattle.text.specs.declared.read.Read.{Read}
+use Rattle.text.specs.memory.Found.{Taken}
 use Rattle.text.specs.memory.Numbers.{SmallFound, LargeFound}
-use Rattle.text.specs.declared.byte.Ended.{Ended}
-use Rattle.text.specs.declared.byte.Ended.TheVariants as ended
 use Rattle.text.proofs.FoundBytes.{byte_found}
 use Rattle.words.specs.memory.Words.{term_word, term_words}
-use Rattle.terms.specs.declared.term.TermRead.{TermRead}
-use Rattle.terms.specs.declared.term.TermRead.TheVariants as told
-use Rattle.terms.specs.declared.term.TermsRead.{TermsRead}
-use Rattle.terms.specs.declared.term.TermsRead.TheVariants as all
+use Rattle.terms.specs.declared.name_table.NameTable.{NameTable}
+use Rattle.terms.specs.declared.term.Terms.{Terms as Told}
 use Rattle.terms.specs.memory.NameTable.{extended_by, NameListed}
-use Rattle.terms.specs.memory.Entries.{Memory, memory, Entered}
+use Rattle.terms.specs.memory.Entries.{Setting, Memory, memory, Entered}
 use Rattle.terms.specs.memory.Lists.{up_to}
-use Rattle.terms.specs.memory.TermReads.{NameTaken, ToldName, read_element, read_variable_term, TermFound, ToldTerm, TermsTaken, TermsFound, ToldTerms, closed_up_to, read_term_list}
+use Rattle.terms.specs.memory.TermReads.{read_element, read_variable_term, TermFound, ToldTerm, TermsTaken, TermsFound, ToldTerms, closed_up_to, read_term_list}
 use Rattle.terms.proofs.memory.Facts.{and_swap}
 use Rattle.terms.proofs.memory.Entries.{GoesBy, entered-none, entered_alike, entered_then, entered-index}
 use Rattle.terms.proofs.memory.Lists.{list-refused, list_full, list-last, list-more, byte_read, byte_refused, up_to-separated}
@@ -81,6 +80,10 @@ not_digit b e = or_left (is_small b) (is_digit b) e
 
 not_letter : (b : ℕ) → is_letter_or_digit b ≡ false → is_capital b ≡ false
 not_letter b e = or_left (is_capital b) (is_small_or_digit b) e
+
+-- a name from one place to another
+abbrev pub NameTaken : Reading Name → Bytes → ℕ → ℕ → Type 0
+NameTaken reader text at end = Taken reader text at (take (end - at) (drop at text)) end
 
 module _ (text : Bytes) (at : ℕ) where
   -- a predicate's name
@@ -130,38 +133,31 @@ module _ (text : Bytes) (at : ℕ) where
         let some = some_span is_small_or_digit is_small refl (drop at text) first in
         record { is = token-found is_small_or_digit text at end ends is_variable (spelled false f); after = omega arith; within = within }
 
-module _ (reader : Reading Name) (text : Bytes) (at : ℕ) (r : Ended) (t : ToldName reader text at r) where
-  pub word-done : (after : ℕ) → r ≡ ended.At after → NameTaken reader text at after
-  word-done after e = subst (ToldName reader text at) e t
-
-  pub word_malformed : r ≡ ended.Malformed → reader (drop at text) ≡ refused 5
-  word_malformed e = subst (ToldName reader text at) e t
-
 -- Terms.
 
-module _ (text : Bytes) (n : ℕ) (bound : Name → Bool) (at : ℕ) (names work : List ℕ) (to : ℕ) where
-  element-entered : (v : ℕ) (known : Bool) → Entered text [] known (λ ix. (v * 16 + 12) ∷ []) (memory names work) to (memory names (set work to (v * 16 + 12)))
+module _ (s : Setting) (at : ℕ) (names : NameTable) (work : List ℕ) (to : ℕ) where
+  element-entered : (v : ℕ) (known : Bool) → Entered s.text [] known (λ ix. (v * 16 + 12) ∷ []) (memory names work) to (memory names (set work to (v * 16 + 12)))
   unfolding extended_by
   element-entered v known = record { names = refl; work = λ h. refl }
 
-  pub element-found : (v after : ℕ) → SmallFound text at v after
-      → TermFound text n bound read_element at (memory names work) to after (is_element n v) (memory names (set work to (v * 16 + 12)))
+  pub element-found : (v after : ℕ) (named : Bool) → SmallFound s.text at v after → named ≡ is_element s.problem.domain v
+      → TermFound s read_element at (memory names work) to after named (memory names (set work to (v * 16 + 12)))
   unfolding read_element
-  element-found v after f =
+  element-found v after named f e =
       record {
         term = element v;
         is = rw (f.found.is 5);
-        judged = sym (and-true (is_element n v));
+        judged = e ∙ sym (and-true (is_element s.problem.domain v));
         after = f.found.after;
         within = f.found.within;
-        entered = element-entered v (is_element n v);
+        entered = element-entered v (is_element s.problem.domain v);
       }
 
   -- an element too large to be told is none of the domain
-  pub element-large : (after : ℕ) → n ≤ 64 → LargeFound text at after → TermFound text n bound read_element at (memory names work) to after false (memory names work)
+  pub element-large : (after : ℕ) → s.problem.domain ≤ 64 → LargeFound s.text at after → TermFound s read_element at (memory names work) to after false (memory names work)
   unfolding read_element extended_by
   element-large after h f =
-      let outside : is_element n f.number ≡ false = rw (lt-leb f.number n (omega (arith, f.large))) (and-false (leb 1 f.number)) in
+      let outside : is_element s.problem.domain f.number ≡ false = rw (lt-leb f.number s.problem.domain (omega (arith, f.large))) (and-false (leb 1 f.number)) in
       record {
         term = element f.number;
         is = rw (f.found.is 5);
@@ -171,54 +167,42 @@ module _ (text : Bytes) (n : ℕ) (bound : Name → Bool) (at : ℕ) (names work
         entered = record { names = refl; work = λ e. absurd (false≢true (sym outside ∙ e)) };
       }
 
-  pub element-refused : ((number : ℕ) → read_number number (drop at text) ≡ refused number) → read_element (drop at text) ≡ refused 5
+  pub variable-entered : (x : Name) (after index : ℕ) (more : NameTable) (named : Bool) → Taken read_variable s.text at x after → NameListed s.text x names more index
+      → named ≡ s.bound x → TermFound s read_variable_term at (memory names work) to after named (memory more (set work to (index * 16 + 13)))
+  unfolding read_variable_term
+  variable-entered x after index more named f listed e =
+      record {
+        term = variable x;
+        is = rw f.is;
+        judged = e;
+        after = f.after;
+        within = f.within;
+        entered = entered-index s.text 13 listed (entered-none s.text (memory more work) (to + 1));
+      }
+
+module _ (s : Setting) (at : ℕ) where
+  pub element-refused : ((number : ℕ) → read_number number (drop at s.text) ≡ refused number) → read_element (drop at s.text) ≡ refused 5
   unfolding read_element
   element-refused e = rw (e 5)
 
-  module _ (after : ℕ) where
-    abbrev y : Name
-    y = take (after - at) (drop at text)
-
-    pub variable-entered : (index : ℕ) (more : List ℕ) (named : Bool) → NameTaken read_variable text at after → NameListed text y names more index → named ≡ bound y
-        → TermFound text n bound read_variable_term at (memory names work) to after named (memory more (set work to (index * 16 + 13)))
-    unfolding read_variable_term
-    variable-entered index more named f listed e =
-        record {
-          term = variable y;
-          is = rw f.is;
-          judged = e;
-          after = f.after;
-          within = f.within;
-          entered = entered-index text 13 listed (entered-none text (memory more work) (to + 1));
-        }
-
-  pub variable-refused : read_variable (drop at text) ≡ refused 5 → read_variable_term (drop at text) ≡ refused 5
+  pub variable-refused : read_variable (drop at s.text) ≡ refused 5 → read_variable_term (drop at s.text) ≡ refused 5
   unfolding read_variable_term
   variable-refused e = rw e
 
-module _ (text : Bytes) (at : ℕ) where
-  pub term_digit : is_digit (next (drop at text)) ≡ true → read_element (drop at text) ≡ read_term (drop at text)
+  pub term_digit : is_digit (next (drop at s.text)) ≡ true → read_element (drop at s.text) ≡ read_term (drop at s.text)
   unfolding read_element read_term
   term_digit e = rw e
 
-  pub term_other : is_digit (next (drop at text)) ≡ false → read_variable_term (drop at text) ≡ read_term (drop at text)
+  pub term_other : is_digit (next (drop at s.text)) ≡ false → read_variable_term (drop at s.text) ≡ read_term (drop at s.text)
   unfolding read_variable_term read_term
   term_other e = rw e
 
   -- by what one reader reads, where another reads the same
-  pub told-term : (n : ℕ) (bound : Name → Bool) (one other : Reading Term) (old : Memory) (to : ℕ) (r : TermRead) (new : Memory) → one (drop at text) ≡ other (drop at text)
-      → ToldTerm text n bound one at old to r new → ToldTerm text n bound other at old to r new
-  told-term n bound one other old to (told.Done after named) new e f =
+  pub told-term : (one other : Reading Term) (old : Memory) (to : ℕ) (r : Option (Read Bool)) (new : Memory) → one (drop at s.text) ≡ other (drop at s.text)
+      → ToldTerm s one at old to r new → ToldTerm s other at old to r new
+  told-term one other old to (Some read) new e f =
       record { term = f.term; is = sym e ∙ f.is; judged = f.judged; after = f.after; within = f.within; entered = f.entered }
-  told-term n bound one other old to told.Malformed new e f = sym e ∙ f
-
-module _ (text : Bytes) (n : ℕ) (bound : Name → Bool) (reader : Reading Term) (at : ℕ) (old : Memory) (to : ℕ) (new : Memory) (r : TermRead)
-    (t : ToldTerm text n bound reader at old to r new) where
-  pub term-done : (after : ℕ) (named : Bool) → r ≡ told.Done after named → TermFound text n bound reader at old to after named new
-  term-done after named e = subst (λ q. ToldTerm text n bound reader at old to q new) e t
-
-  pub term_malformed : r ≡ told.Malformed → reader (drop at text) ≡ refused 5
-  term_malformed e = subst (λ q. ToldTerm text n bound reader at old to q new) e t
+  told-term one other old to None new e f = sym e ∙ f
 
 -- Lists of terms, with one more behind the others.
 
@@ -253,119 +237,130 @@ term_words_goes (term t ts) ix jx same =
     (term_word_goes t ix jx (each_left _ (term_variables t) (terms_variables ts) same))
     (term_words_goes ts ix jx (each_right _ (term_variables t) (terms_variables ts) same))
 
-module _ (text : Bytes) (n : ℕ) (bound : Name → Bool) where
-  pub terms_none : (m : Memory) (to : ℕ) → TermsTaken text n bound [] 0 true m to m
-  terms_none m to = record { counted = refl; judged = refl; entered = entered-none text m to }
+abbrev pub told : ℕ → Bool → Told
+told count named = record { count = count; named = named }
 
-  terms_more : (items : List Term) (count : ℕ) (named : Bool) (old mid : Memory) (to : ℕ) → TermsTaken text n bound items count named old to mid
-      → (i after : ℕ) (one : Bool) (new : Memory) (f : TermFound text n bound read_term i mid (to + count) after one new)
-      → TermsTaken text n bound (items ++ (f.term ∷ [])) (count + 1) (named && one) old to new
-  terms_more items count named old mid to taken i after one new f =
+module _ (s : Setting) where
+  pub terms_none : (m : Memory) (to : ℕ) → TermsTaken s [] (told 0 true) m to m
+  terms_none m to = record { counted = refl; judged = refl; entered = entered-none s.text m to }
+
+  -- with one more
+  abbrev pub more_told : Told → Bool → Told
+  more_told before named = told (before.count + 1) (before.named && named)
+
+  terms_more : (items : List Term) (before : Told) (old mid : Memory) (to : ℕ) → TermsTaken s items before old to mid
+      → (i after : ℕ) (one : Bool) (new : Memory) (f : TermFound s read_term i mid (to + before.count) after one new)
+      → TermsTaken s (items ++ (f.term ∷ [])) (more_told before one) old to new
+  terms_more items before old mid to taken i after one new f =
+      let n = s.problem.domain in
       record {
         counted = rw (length-append items (f.term ∷ [])) (omega (arith, taken.counted));
         judged = rw (taken.judged, f.judged)
-            (and_swap (terms_known n (terms_of items)) (terms_closed bound (terms_of items)) (term_known n f.term) (term_closed bound f.term)
-            ∙ ap₂ ◌&&◌ (terms_known-last n items f.term) (terms_closed-last bound items f.term));
-        entered = entered_alike text (terms_variables-last items f.term) (λ h. terms_known-last n items f.term ∙ h) (λ ix. term_words-last ix items f.term)
-            (entered_then text taken.entered (term_words_goes (terms_of items)) (λ ix. length-term_words ix items ∙ sym taken.counted) f.entered);
+            (and_swap (terms_known n (terms_of items)) (terms_closed s.bound (terms_of items)) (term_known n f.term) (term_closed s.bound f.term)
+            ∙ ap₂ ◌&&◌ (terms_known-last n items f.term) (terms_closed-last s.bound items f.term));
+        entered = entered_alike s.text (terms_variables-last items f.term) (λ h. terms_known-last n items f.term ∙ h) (λ ix. term_words-last ix items f.term)
+            (entered_then s.text taken.entered (term_words_goes (terms_of items)) (λ ix. length-term_words ix items ∙ sym taken.counted) f.entered);
       }
 
-  -- some are read, and then those from i on, at most so many more
-  pub record TermsPassed (most at : ℕ) (old : Memory) (to i more count : ℕ) (named : Bool) (new : Memory) : Type 0 where
+  -- some are read, and then those from i on, as many as may still follow
+  pub record TermsPassed (most at : ℕ) (old : Memory) (to i : ℕ) (before : Told) (new : Memory) : Type 0 where
     pub items : List Term
-    pub is : up_to most read_term (drop at text) ≡ prepended items (up_to more read_term (drop i text))
-    pub taken : TermsTaken text n bound items count named old to new
-    pub after : at + count + count ≤ i
-    pub within : i ≤ length text
+    pub is : up_to most read_term (drop at s.text) ≡ prepended items (up_to (most - before.count) read_term (drop i s.text))
+    pub taken : TermsTaken s items before old to new
+    pub few : before.count ≤ most
+    pub after : at + before.count + before.count ≤ i
+    pub within : i ≤ length s.text
 
   module _ (most at : ℕ) (old : Memory) (to : ℕ) where
-    pub terms_first : at ≤ length text → TermsPassed most at old to at most 0 true old
-    terms_first h = record { items = []; is = prepended_none (up_to most read_term (drop at text)); taken = terms_none old to; after = omega arith; within = h }
+    pub terms_first : at ≤ length s.text → TermsPassed most at old to at (told 0 true) old
+    terms_first h =
+        record {
+          items = [];
+          is = let e : most - 0 ≡ most = omega arith in rw e (prepended_none (up_to most read_term (drop at s.text)));
+          taken = terms_none old to;
+          few = omega arith;
+          after = omega arith;
+          within = h;
+        }
 
-    module _ (i more count : ℕ) (named : Bool) (mid : Memory) (p : TermsPassed most at old to i more count named mid) where
-      pub terms_refused : read_term (drop i text) ≡ refused 5 → up_to most read_term (drop at text) ≡ refused 5
-      terms_refused e = p.is ∙ list-refused read_term text i more p.items 5 e
+    module _ (i : ℕ) (before : Told) (mid : Memory) (p : TermsPassed most at old to i before mid) where
+      abbrev more : ℕ
+      more = most - before.count
 
-      module _ (after : ℕ) (one : Bool) (new : Memory) (f : TermFound text n bound read_term i mid (to + count) after one new) where
-        terms_end : prepended p.items (up_to more read_term (drop i text)) ≡ done (p.items ++ (f.term ∷ []), drop after text)
-            → TermsFound text n bound (up_to most read_term) at old to after (count + 1) (named && one) new
+      pub terms_refused : read_term (drop i s.text) ≡ refused 5 → up_to most read_term (drop at s.text) ≡ refused 5
+      terms_refused e = p.is ∙ list-refused read_term s.text i more p.items 5 e
+
+      module _ (after : ℕ) (one : Bool) (new : Memory) (f : TermFound s read_term i mid (to + before.count) after one new) where
+        terms_end : prepended p.items (up_to more read_term (drop i s.text)) ≡ done (p.items ++ (f.term ∷ []), drop after s.text)
+            → TermsFound s (up_to most read_term) at old to after (more_told before one) new
         terms_end e =
             record {
               items = p.items ++ (f.term ∷ []);
               is = p.is ∙ e;
-              taken = terms_more p.items count named old mid to p.taken i after one new f;
+              taken = terms_more p.items before old mid to p.taken i after one new f;
               after = omega (arith, p.after, f.after);
               within = f.within;
             }
 
-        pub terms_full : more ≡ 0 → TermsFound text n bound (up_to most read_term) at old to after (count + 1) (named && one) new
-        terms_full z = terms_end (list_full read_term text i more p.items f.term after f.is z)
+        pub terms_full : most < before.count + 1 → TermsFound s (up_to most read_term) at old to after (more_told before one) new
+        terms_full z = terms_end (list_full read_term s.text i more p.items f.term after f.is (omega (arith, p.few)))
 
-        pub terms_last : (next (drop after text) ≡ 44 → ⊥) → TermsFound text n bound (up_to most read_term) at old to after (count + 1) (named && one) new
-        terms_last h = terms_end (list-last read_term text i more p.items f.term after f.is h)
+        pub terms_last : (next (drop after s.text) ≡ 44 → ⊥) → TermsFound s (up_to most read_term) at old to after (more_told before one) new
+        terms_last h = terms_end (list-last read_term s.text i more p.items f.term after f.is h)
 
-        pub terms_on : (more ≡ 0 → ⊥) → next (drop after text) ≡ 44 → TermsPassed most at old to (after + 1) (more - 1) (count + 1) (named && one) new
+        pub terms_on : before.count + 1 ≤ most → next (drop after s.text) ≡ 44 → TermsPassed most at old to (after + 1) (more_told before one) new
         terms_on some h =
+            let e : more - 1 ≡ most - (before.count + 1) = omega arith in
             record {
               items = p.items ++ (f.term ∷ []);
-              is = p.is ∙ list-more read_term text i more p.items f.term after f.is some h;
-              taken = terms_more p.items count named old mid to p.taken i after one new f;
+              is = p.is ∙ rw e at (list-more read_term s.text i more p.items f.term after f.is (λ z. omega arith) h);
+              taken = terms_more p.items before old mid to p.taken i after one new f;
+              few = some;
               after = omega (arith, p.after, f.after);
-              within = (byte_found text after 44 (omega arith) h).within;
+              within = (byte_found s.text after 44 (omega arith) h).within;
             }
 
 -- a bracket behind them
-module _ (text : Bytes) (n : ℕ) (bound : Name → Bool) (most at : ℕ) (old : Memory) (to : ℕ) where
-  pub closed-refused : up_to most read_term (drop at text) ≡ refused 5 → closed_up_to most (drop at text) ≡ refused 5
+module _ (s : Setting) (most at : ℕ) where
+  pub closed-refused : up_to most read_term (drop at s.text) ≡ refused 5 → closed_up_to most (drop at s.text) ≡ refused 5
   unfolding closed_up_to
   closed-refused e = rw e
 
-  module _ (after count : ℕ) (named : Bool) (new : Memory) (f : TermsFound text n bound (up_to most read_term) at old to after count named new) where
-    pub closed_other : (next (drop after text) ≡ 41 → ⊥) → closed_up_to most (drop at text) ≡ refused 5
+  module _ (old : Memory) (to after : ℕ) (terms : Told) (new : Memory) (f : TermsFound s (up_to most read_term) at old to after terms new) where
+    pub closed_other : (next (drop after s.text) ≡ 41 → ⊥) → closed_up_to most (drop at s.text) ≡ refused 5
     unfolding closed_up_to
-    closed_other h = rw (f.is, byte_refused text after 41 (omega arith) 5 h)
+    closed_other h = rw (f.is, byte_refused s.text after 41 (omega arith) 5 h)
 
-    pub closed-found : next (drop after text) ≡ 41 → TermsFound text n bound (closed_up_to most) at old to (after + 1) count named new
+    pub closed-found : next (drop after s.text) ≡ 41 → TermsFound s (closed_up_to most) at old to (after + 1) terms new
     unfolding closed_up_to
     closed-found h =
         record {
           items = f.items;
-          is = rw (f.is, byte_read text after 41 (omega arith) 5 h);
+          is = rw (f.is, byte_read s.text after 41 (omega arith) 5 h);
           taken = f.taken;
           after = omega (arith, f.after);
-          within = (byte_found text after 41 (omega arith) h).within;
+          within = (byte_found s.text after 41 (omega arith) h).within;
         }
-
-module _ (text : Bytes) (n : ℕ) (bound : Name → Bool) (reader : Reading (List Term)) (at : ℕ) (old : Memory) (to : ℕ) (new : Memory) (r : TermsRead)
-    (t : ToldTerms text n bound reader at old to r new) where
-  pub terms_by : (q : TermsRead) → r ≡ q → ToldTerms text n bound reader at old to q new
-  terms_by q e = subst (λ x. ToldTerms text n bound reader at old to x new) e t
-
-  pub terms_done : (after count : ℕ) (named : Bool) → r ≡ all.Done after count named → TermsFound text n bound reader at old to after count named new
-  terms_done after count named e = terms_by _ e
-
-  pub terms_malformed : r ≡ all.Malformed → reader (drop at text) ≡ refused 5
-  terms_malformed e = terms_by _ e
 
 -- The terms of an atom.
 
-module _ (text : Bytes) (n : ℕ) (bound : Name → Bool) (at : ℕ) (old : Memory) (to : ℕ) where
-  pub arguments_none : at ≤ length text → (next (drop at text) ≡ 40 → ⊥) → TermsFound text n bound read_term_list at old to at 0 true old
+module _ (s : Setting) (at : ℕ) (old : Memory) (to : ℕ) where
+  pub arguments_none : at ≤ length s.text → (next (drop at s.text) ≡ 40 → ⊥) → TermsFound s read_term_list at old to at (told 0 true) old
   unfolding read_term_list
   arguments_none h e =
-      record { items = []; is = rw (ne_eqb (next (drop at text)) 40 e); taken = terms_none text n bound old to; after = omega arith; within = h }
+      record { items = []; is = rw (ne_eqb (next (drop at s.text)) 40 e); taken = terms_none s old to; after = omega arith; within = h }
 
-  arguments_behind : next (drop at text) ≡ 40 → read_term_list (drop at text) ≡ closed_up_to (length text) (drop (at + 1) text)
+  arguments_behind : next (drop at s.text) ≡ 40 → read_term_list (drop at s.text) ≡ closed_up_to (length s.text) (drop (at + 1) s.text)
   unfolding read_term_list closed_up_to
   arguments_behind e =
       rw (
-        eq-eqb (next (drop at text)) 40 e,
-        byte_read text at 40 (omega arith) 5 e,
-        up_to-separated read_term (reads_shrinks reads-term) (length text) (drop (at + 1) text) (omega (arith, length-drop (at + 1) text)),
+        eq-eqb (next (drop at s.text)) 40 e,
+        byte_read s.text at 40 (omega arith) 5 e,
+        up_to-separated read_term (reads_shrinks reads-term) (length s.text) (drop (at + 1) s.text) (omega (arith, length-drop (at + 1) s.text)),
       )
 
-  pub arguments_some : next (drop at text) ≡ 40 → (r : TermsRead) (new : Memory) → ToldTerms text n bound (closed_up_to (length text)) (at + 1) old to r new
-      → ToldTerms text n bound read_term_list at old to r new
-  arguments_some e (all.Done after count named) new f =
+  pub arguments_some : next (drop at s.text) ≡ 40 → (r : Option (Read Told)) (new : Memory) → ToldTerms s (closed_up_to (length s.text)) (at + 1) old to r new
+      → ToldTerms s read_term_list at old to r new
+  arguments_some e (Some read) new f =
       record { items = f.items; is = arguments_behind e ∙ f.is; taken = f.taken; after = omega (arith, f.after); within = f.within }
-  arguments_some e all.Malformed new f = arguments_behind e ∙ f
+  arguments_some e None new f = arguments_behind e ∙ f

@@ -1,11 +1,14 @@
 -- What reading leaves in memory: the variables in their table, and the words.
-use Rattle.std.specs.Prelude.{ℕ, ◌≡◌, List, Bool, true}
+use Rattle.std.specs.Prelude.{ℕ, ◌+◌, ◌≡◌, List, Bool, true}
 use Rattle.std.proofs.lemmas.List.Edits.{sets}
 use Rattle.grammar.specs.Bytes.{Bytes}
 use Rattle.grammar.specs.Problem.{Name, Problem}
-use Rattle.table.specs.memory.Table.{position, table_names}
+use Rattle.logic.specs.Names.{none, besides}
+use Rattle.text.specs.declared.name.Name.{Name as Place}
+use Rattle.table.specs.memory.Table.{position, name_at, table_names}
 use Rattle.table.specs.declared.table.Table.{Table}
-use Rattle.terms.specs.declared.binding.Scope.{Scope}
+use Rattle.terms.specs.declared.name_table.NameTable.{NameTable}
+use Rattle.terms.specs.declared.setting.Setting.{Setting as Given}
 use Rattle.terms.specs.memory.NameTable.{extended_by, index_in, names_in}
 use Rattle.terms.specs.memory.Bindings.{bound_in}
 use Rattle.terms.specs.memory.Signature.{signature_of}
@@ -24,15 +27,30 @@ setting text bound problem index = record { text = text; problem = problem; boun
 abbrev pub predicate_index : Bytes → Table → Name → ℕ
 predicate_index problem table p = position p (table_names problem table)
 
-abbrev pub setting_of : Bytes → Scope → Bytes → Table → Setting
-setting_of text scope problem table = setting text (bound_in text scope) (signature_of problem table) (predicate_index problem table)
+abbrev pub setting_of : Given → Setting
+setting_of given =
+    setting given.text.now (bound_in given.text.now given.scope) (signature_of given.problem.now given.table.now) (predicate_index given.problem.now given.table.now)
+
+-- a problem with its table, where a text is read and no variable is bound around
+pub record Outermost (theory source : Bytes) (entries : Table) (given : Given) : Type 0 where
+  pub is : setting_of given ≡ setting theory none (signature_of source entries) (predicate_index source entries)
+  pub text : given.text.now ≡ theory
+  pub problem : given.problem.now ≡ source
+  pub table : given.table.now ≡ entries
+  pub count : given.scope.count ≡ 0
+
+-- the same with one variable more, whose name stands at a place of the text
+pub record BindsIn (given : Given) (name : Place) (inner : Given) : Type 0 where
+  pub is : setting_of inner ≡ record (setting_of given) { bound = besides (name_at given.text.now name) (setting_of given).bound }
+  pub text : inner.text.now ≡ given.text.now
+  pub count : inner.scope.count ≡ given.scope.count + 1
 
 -- lent memory: the variables' table, and the words
 pub record Memory : Type 0 where
-  pub names : List ℕ
+  pub names : NameTable
   pub work : List ℕ
 
-abbrev pub memory : List ℕ → List ℕ → Memory
+abbrev pub memory : NameTable → List ℕ → Memory
 memory names work = record { names = names; work = work }
 
 -- variables are in their table, if there is room; and words, which go by the variables' indices, stand from a place on as far as memory goes,

@@ -1,10 +1,12 @@
 -- The variables' table: the names of a theory's variables in the order in which they first come, and the memory that holds them.
-use Rattle.std.specs.Prelude.{ℕ, ◌+◌, ◌*◌, ◌≤◌, min, ◌≡◌, List, [], ◌∷◌, ◌++◌, Bool, cond, ◌&&◌, ◌||◌, leb, length, get_or, take, drop, set}
+use Rattle.std.specs.Prelude.{ℕ, ◌+◌, ◌≤◌, ◌<◌, ◌≡◌, List, [], ◌∷◌, ◌++◌, map, Bool, cond, ◌&&◌, ◌||◌, leb, min, length, take, set}
 use Rattle.grammar.specs.Sizes.{variable_count}
 use Rattle.grammar.specs.Bytes.{Bytes, member}
 use Rattle.grammar.specs.Problem.{Name}
 use Rattle.logic.specs.Limits.{names_short}
-use Rattle.table.specs.memory.Table.{position, indexed}
+use Rattle.table.specs.memory.Table.{position, name_at}
+use Rattle.text.specs.declared.name.Name.{Name as Place}
+use Rattle.terms.specs.declared.name_table.NameTable.{NameTable}
 
 -- a name that is in the table, or finds it full: its index does not change any more
 abbrev pub settled : List Name → Name → Bool
@@ -23,19 +25,22 @@ extended_by names (x ∷ xs) = extended_by (extended names x) xs
 abbrev pub index_in : List Name → Name → ℕ
 index_in names x = position x names
 
--- In memory: how many names there are, then the start and the size of each in the theory's text.
-abbrev pub name_in : Bytes → List ℕ → ℕ → Name
-name_in text memory i = take (get_or memory (2 * i + 1 + 1) 0) (drop (get_or memory (2 * i + 1) 0) text)
+-- the names at places of a text
+abbrev pub names_of : Bytes → List Place → List Name
+names_of text places = map (name_at text) places
 
-unfoldable pub names_in : Bytes → List ℕ → List Name
-names_in text memory = indexed (name_in text memory) 0 (min (get_or memory 0 0) 65)
+-- the names that the code's table has
+unfoldable pub names_in : Bytes → NameTable → List Name
+names_in text table = names_of text (take table.count table.names)
 
--- with a name stored at an index, the last
-abbrev pub with_name : List ℕ → ℕ → ℕ → ℕ → List ℕ
-with_name memory i at size = set (set (set memory (2 * i + 1) at) (2 * i + 1 + 1) size) 0 (i + 1)
+-- a name's place is behind the others, if there is room, and its index is told
+pub record HasAdded (place : Place) (old new : NameTable) (index : ℕ) : Type 0 where
+  pub is : index ≡ min old.count 65
+  pub room : old.count < 65 → (new.names ≡ set old.names old.count place) × (new.count ≡ old.count + 1)
+  pub full : 65 ≤ old.count → (new.names ≡ old.names) × (new.count ≡ old.count)
 
 -- a name is in the table, if there is room, and its index is told
-pub record NameListed (text : Bytes) (x : Name) (old new : List ℕ) (index : ℕ) : Type 0 where
+pub record NameListed (text : Bytes) (x : Name) (old new : NameTable) (index : ℕ) : Type 0 where
   pub names : names_in text new ≡ extended (names_in text old) x
   pub is : index ≡ index_in (names_in text new) x
   pub small : index ≤ 65

@@ -1,12 +1,10 @@
 -- What the code tells of numbers in a text, whatever stands there: places, and values as far as they matter.
-use Rattle.std.specs.Prelude.{ℕ, zero, suc, ◌+◌, ◌≤◌, ◌<◌, min, max, ◌≡◌, List, [], ◌∷◌, length, drop}
+use Rattle.std.specs.Prelude.{Option, Some, None, ℕ, zero, suc, ◌+◌, ◌≤◌, ◌<◌, min, max, ◌≡◌, List, [], ◌∷◌, length, drop}
 use Rattle.grammar.specs.Bytes.{Bytes, span, is_digit}
 use Rattle.grammar.specs.Numbers.{value}
 use Rattle.grammar.specs.Outcome.{done, refused}
 use Rattle.grammar.specs.Reading.{read_number}
-use Rattle.text.specs.declared.number.Digits.{Digits}
-use Rattle.text.specs.declared.number.Number.{Number}
-use Rattle.text.specs.declared.number.Number.TheVariants.{Value, Beyond, Malformed}
+use Rattle.text.specs.declared.read.Read.{Read}
 
 -- larger than every number that the statement asks for: numbers from here on are not told apart
 abbrev pub beyond : ℕ
@@ -27,7 +25,7 @@ unfoldable pub numbers_at : Bytes → ℕ → ℕ → List ℕ
 numbers_at text at zero = []
 numbers_at text at (suc many) = number_at text at ∷ numbers_at text (number_end text at + 1) many
 
-pub record DigitsTold (text : Bytes) (at : ℕ) (r : Digits) : Type 0 where
+pub record DigitsTold (text : Bytes) (at : ℕ) (r : Read ℕ) : Type 0 where
   pub value : r.value ≡ number_at text at
   pub next : r.next ≡ number_end text at
   pub within : r.next ≤ max at (length text)
@@ -49,7 +47,11 @@ pub record LargeFound (text : Bytes) (at next : ℕ) : Type 0 where
   pub found : NumberFound text at number next
   pub large : beyond ≤ number
 
-abbrev pub ToldNumber : Bytes → ℕ → Number → Type 0
-ToldNumber text at (Value next number) = SmallFound text at number next
-ToldNumber text at (Beyond next) = LargeFound text at next
-ToldNumber text at Malformed = (refusal : ℕ) → read_number refusal (drop at text) ≡ refused refusal
+-- its value, where that matters
+abbrev pub ToldValue : Bytes → ℕ → ℕ → Option ℕ → Type 0
+ToldValue text at next (Some number) = SmallFound text at number next
+ToldValue text at next None = LargeFound text at next
+
+abbrev pub ToldNumber : Bytes → ℕ → Option (Read (Option ℕ)) → Type 0
+ToldNumber text at (Some r) = ToldValue text at r.next r.value
+ToldNumber text at None = (refusal : ℕ) → read_number refusal (drop at text) ≡ refused refusal

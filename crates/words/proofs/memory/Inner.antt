@@ -10,6 +10,7 @@ use borrow.Author.Tests.{ltb-true, ltb-false}
 use lib.Dec.{ltb}
 use lib.ListN.{length, get_or, drop, length-append}
 use lib.Seq.{drop-drop, drop-append_seam}
+use Rattle.std.specs.Prelude.{Option, Some, None, option_and_then}
 use Rattle.grammar.specs.Outcome.{Outcome, done, refused, mapped}
 use Rattle.grammar.specs.Problem.{Name, Problem}
 use Rattle.grammar.proofs.Outcome.{mapped-mapped}
@@ -19,10 +20,8 @@ use Rattle.logic.proofs.WellFormed.{WellFormed, AllWellFormed, of_connective, of
 use Rattle.text.proofs.Places.{next-within}
 use Rattle.words.specs.memory.Kinds.{kind_of, skip}
 use Rattle.words.specs.memory.Words.{connective_tag, quantifier_tag, part_total, words}
-use Rattle.words.specs.memory.Paths.{subformula_count, place_below, place_of, onward}
+use Rattle.words.specs.memory.Paths.{subformula_count, place_below, place_of}
 use Rattle.words.specs.declared.word.Kind.{Kind}
-use Rattle.words.specs.declared.walk.Place.{Place}
-use Rattle.words.specs.declared.walk.Place.TheVariants.{At, Nowhere}
 use Rattle.words.proofs.memory.Kinds.{skip-none}
 use Rattle.words.proofs.memory.Naming.{Naming, words_in, all_words_in, Storable, AllStorable}
 use Rattle.words.proofs.memory.Words.{length-words, skip-words, skip_first, kind_truth, kind_atom, kind_equal, kind_connective, kind_quantifier}
@@ -174,9 +173,9 @@ module _ (N : Naming) where
   }
 
 -- what a place tells of a path from `start`: the inner formula stands there, or there is none
-abbrev pub Reached : (N : Naming) (f : Formula) → (Rewriting → Outcome ℕ Formula) → ℕ → Place → Type 0
-Reached N f rewrite start (At j) = (r : Inner N f rewrite) × (j ≡ start + length r.before)
-Reached N f rewrite start Nowhere = (k : Rewriting) → rewrite k ≡ refused 12
+abbrev pub Reached : (N : Naming) (f : Formula) → (Rewriting → Outcome ℕ Formula) → ℕ → Option ℕ → Type 0
+Reached N f rewrite start (Some j) = (r : Inner N f rewrite) × (j ≡ start + length r.before)
+Reached N f rewrite start None = (k : Rewriting) → rewrite k ≡ refused 12
 
 module _ (N : Naming) (work : List ℕ) where
   -- the word at a place, and what follows it
@@ -268,12 +267,12 @@ module _ (N : Naming) (work : List ℕ) where
   walk_reached [] f start s e = (inner_self f, sym (add-zero start))
   walk_reached (i ∷ is) f start s e = pick (place_below work start i) (below_reached f i start s e) (λ g j u h. walk_reached is g j u h)
     where
-      pick : (p : Place) → Reached N f (λ k. into i k f) start p
+      pick : (p : Option ℕ) → Reached N f (λ k. into i k f) start p
           → ((g : Formula) (j : ℕ) (u : List ℕ) → drop j work ≡ words_in N g ++ u → Reached N g (λ k. at is k g) j (place_of work is j))
-          → Reached N f (λ k. at (i ∷ is) k f) start (onward p (place_of work is))
-      pick Nowhere refuses go = λ k. refuses (at is k)
-      pick (At j) (a, h) go = further (place_of work is j) (go a.inner j (a.after ++ s) (rw h (inner_stands f (λ k. into i k f) a start s e)))
+          → Reached N f (λ k. at (i ∷ is) k f) start (option_and_then (place_of work is) p)
+      pick None refuses go = λ k. refuses (at is k)
+      pick (Some j) (a, h) go = further (place_of work is j) (go a.inner j (a.after ++ s) (rw h (inner_stands f (λ k. into i k f) a start s e)))
         where
-          further : (p : Place) → Reached N a.inner (λ k. at is k a.inner) j p → Reached N f (λ k. at (i ∷ is) k f) start p
-          further Nowhere refuses = λ k. a.rewrite_put (at is k) ∙ ap (mapped a.put) (refuses k)
-          further (At l) (b, m) = (inner_within f i is a b, rw length-append (omega arith))
+          further : (p : Option ℕ) → Reached N a.inner (λ k. at is k a.inner) j p → Reached N f (λ k. at (i ∷ is) k f) start p
+          further None refuses = λ k. a.rewrite_put (at is k) ∙ ap (mapped a.put) (refuses k)
+          further (Some l) (b, m) = (inner_within f i is a b, rw length-append (omega arith))

@@ -1,10 +1,11 @@
 -- Laws of `skip`: a turn of the loop that counts the parts still to come, and that it stays within the words; and a turn of the loop over terms.
 -- Assumes nothing.
-use Prim.Native.Nat.{ℕ, zero, suc, ◌+◌, ◌-◌, ◌%◌, ◌≤◌, ◌<◌}
-use native.Mathlib.Nat.{zero-add, suc-add}
+use Prim.Native.Nat.{ℕ, zero, suc, ◌+◌, ◌-◌, ◌%◌, ◌≤◌, ◌<◌, min}
+use native.Mathlib.Nat.{zero-add, suc-add, min-eq_left}
+use native.Mathlib.Decide.{dec_le}
 use native.Mathlib.Numerals.{add-one, sub-one}
 use native.Mathlib.Omega.{arith}
-use mathlib.Core.Path.{◌≡◌, refl, ◌∙◌}
+use mathlib.Core.Path.{◌≡◌, refl, sym, ap, ◌∙◌}
 use mathlib.Core.List.{List, [], ◌∷◌}
 use mathlib.Core.Bool.{true, false, ◌&&◌}
 use borrow.Author.Tests.{eq-eqb, ne_eqb}
@@ -38,6 +39,26 @@ skip_atmost (w ∷ s) (suc n) = let h = skip_atmost s (n + part_count (kind_of w
 pub skip-within : (s : List ℕ) (i n : ℕ) → i ≤ length s → i + skip (drop i s) n ≤ length s
 skip-within s i n h = let k = skip_atmost (drop i s) n in omega (arith, length-drop i s)
 
+-- as many formulas as there are words, or more, are all the words
+skip_all : (s : List ℕ) (n : ℕ) → length s ≤ n → skip s n ≡ length s
+unfolding skip
+skip_all [] n h = refl
+skip_all (w ∷ s) zero h = absurd (omega arith)
+skip_all (w ∷ s) (suc n) h = ap suc (skip_all s (n + part_count (kind_of w)) (omega arith))
+
+-- so how many there are matters no further than the words
+pub skip_capped : (s : List ℕ) (i n most : ℕ) → length s ≤ most → skip (drop i s) (min n most) ≡ skip (drop i s) n
+skip_capped s i n most h = pick (dec_le n most)
+  where
+    pick : Dec (n ≤ most) → skip (drop i s) (min n most) ≡ skip (drop i s) n
+    pick (yes k) = rw (min-eq_left k)
+    pick (no k) =
+        let fewer : min n most ≡ most = omega arith in
+        let short = length-drop i s in
+        rw fewer (skip_all (drop i s) most (omega arith) ∙ sym (skip_all (drop i s) n (omega arith)))
+
+pub ruleset skips = (skip-none, skip-beyond, skip_turn, skip_capped)
+
 -- some formulas, and then some more
 pub skip_add : (s : List ℕ) (m n : ℕ) → skip s (m + n) ≡ skip s m + skip (drop (skip s m) s) n
 unfolding skip
@@ -68,3 +89,5 @@ module _ (work : List ℕ) (i n : ℕ) (more : 0 < n) where
 pub elements-none : (n : ℕ) (s : List ℕ) → n ≡ 0 → elements_at n s ≡ true
 unfolding elements_at
 elements-none n s e = rw e
+
+pub ruleset elements = (elements-none, elements-more, elements-stop)

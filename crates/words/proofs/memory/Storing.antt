@@ -1,20 +1,48 @@
 -- Stores one after the other. Each loop and each run of calls that stores has one invariant: what is to be stored in all is what memory holds now with what is still to come.
 -- Assumes nothing.
-use Prim.Native.Nat.{ℕ, suc, ◌+◌, ◌-◌, ◌≤◌, ◌<◌}
+use Prim.Native.Nat.{ℕ, zero, suc, ◌+◌, ◌-◌, ◌≤◌, ◌<◌, min}
 use native.Mathlib.Nat.{zero-add, add-zero}
-use native.Mathlib.Numerals.{add-one}
 use native.Mathlib.Omega.{arith}
 use mathlib.Core.Path.{◌≡◌, refl, sym, ap, ap₂, ◌∙◌}
 use mathlib.Core.List.{List, [], ◌∷◌, ◌++◌, append_assoc, append-nil}
-use lib.ListN.{length, get_or, take, drop, set, length-append}
-use lib.Seq.{slice, sets, slice_empty, slice-cons, length-slice, length-sets, sets-eq, take_at, drop_at, length-take-le, take-set-le, take-take, get_or-take, get_or-drop, drop-set-lt}
+use lib.ListN.{length, get_or, take, drop, set, length-set, length-append, length-drop}
+use lib.Seq.{slice, sets, paste, take-nil, length-slice, length-sets, sets-eq, take_at, drop_at, length-take-le, take-set-le, take-take, get_or-take}
+use Rattle.std.proofs.lemmas.List.{set_past}
 use Rattle.grammar.proofs.Laws.{sets_append}
-use Rattle.words.specs.memory.Storing.{Stores, spliced, Placed, Rewritten, Roomy, Fronted}
+use Rattle.words.specs.memory.Storing.{Stores, Copyable, spliced, Placed, Rewritten, Roomy, Fronted}
 use Rattle.words.proofs.memory.Standing.{drop-take}
 
 pub take_sets : (new l : List ℕ) (n i : ℕ) → n ≤ i → take n (sets l i new) ≡ take n l
 take_sets [] l n i h = refl
 take_sets (w ∷ new) l n i h = take_sets new (set l i w) n (suc i) (omega arith) ∙ take-set-le n l i w h
+
+-- what has no room is not stored
+sets_cut : (new l : List ℕ) (to n : ℕ) → min (length l - to) (length new) ≤ n → sets l to new ≡ sets l to (take n new)
+sets_cut [] l to n h = rw take-nil
+sets_cut (w ∷ new) l to zero h =
+    let past : length l ≤ to = omega arith in
+    let same = length-set l to w in
+    sets_cut new (set l to w) (suc to) 0 (omega arith) ∙ set_past l to w past
+sets_cut (w ∷ new) l to (suc n) h =
+    let same = length-set l to w in
+    sets_cut new (set l to w) (suc to) n (omega arith)
+
+-- A range copied to another place is stored there, as far as there is room.
+module _ {work : List ℕ} {at end to : ℕ} (c : Copyable work at end to) where
+  pub copied_size : length (slice at end work) ≡ end - at
+  copied_size = length-slice at end work c.within
+
+  pub copied_none : length work ≤ to → sets work to (slice at end work) ≡ work
+  copied_none past = let long = copied_size in sets_cut (slice at end work) work to 0 (omega arith)
+
+  pub copied_some : (n : ℕ) → to < length work → n ≡ min (end - at) (length work - to) → sets work to (slice at end work) ≡ paste work to (drop at work) n
+  copied_some n inside e =
+      let long = copied_size in
+      let ends : end ≡ at + (end - at) = omega (arith, c.ordered) in
+      let first : take n (slice at end work) ≡ take n (drop at work) =
+      ap (λ (k : ℕ). take n (drop at (take k work))) ends ∙ ap (take n) (drop-take at (end - at) work) ∙ take-take n (end - at) (drop at work) (omega arith) in
+      let fits : length (take n (drop at work)) ≡ n = length-take-le n (drop at work) (omega (arith, c.within, length-drop at work)) in
+      sets_cut (slice at end work) work to n (omega arith) ∙ rw first (sets-eq (take n (drop at work)) work to (omega arith) ∙ rw fits)
 
 -- `whole` stored from `to` on in `old` is `rest` stored from `j` on in `work`, which is still as it was before `to`
 pub record Ahead (old : List ℕ) (to : ℕ) (whole work : List ℕ) (j : ℕ) (rest : List ℕ) : Type 0 where
@@ -51,23 +79,6 @@ module _ {old : List ℕ} {to : ℕ} {whole work : List ℕ} {j : ℕ} {rest : L
 
   pub ahead_slice : (at end : ℕ) → end ≤ to → slice at end work ≡ slice at end old
   ahead_slice at end h = ap (drop at) (ahead_take end h)
-
--- A word of a range, and what follows it.
-pub slice_next : (at end : ℕ) (s : List ℕ) → at < end → end ≤ length s → slice at end s ≡ (get_or s at 0 ∷ []) ++ slice (at + 1) end s
-slice_next at end s h k = slice-cons at end s 0 h k ∙ rw (← add-one at)
-
-pub slice_none : (at end : ℕ) (s : List ℕ) → at ≡ end → slice at end s ≡ []
-slice_none at end s e = rw e (slice_empty end s)
-
--- What stands behind a place, where words are stored before it.
-module _ (before now : List ℕ) (from : ℕ) (same : drop from now ≡ drop from before) where
-  pub behind_read : (i : ℕ) → from ≤ i → get_or now i 0 ≡ get_or before i 0
-  behind_read i h =
-      let e : i ≡ from + (i - from) = omega arith in
-      rw e (sym (get_or-drop from now (i - from) 0) ∙ ap (λ (l : List ℕ). get_or l (i - from) 0) same ∙ get_or-drop from before (i - from) 0)
-
-  pub behind_word : {j word next : ℕ} {later : List ℕ} → j < from → Stores now j (word ∷ []) next later → drop from later ≡ drop from before
-  behind_word {j} {word} h s = rw s.holds (drop-set-lt from now j word h ∙ same)
 
 -- The next theory: what stands before the formula, what is made of the formula, and what stands after it.
 module _ {old : List ℕ} {at end full to : ℕ} (p : Placed old at end full to) where

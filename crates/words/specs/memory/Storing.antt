@@ -1,5 +1,5 @@
 -- Words stored from a place on: nothing is stored past the end of memory, and the count goes on.
-use Rattle.std.specs.Prelude.{ℕ, ◌+◌, ◌≤◌, ◌<◌, ◌≡◌, List, ◌++◌, length, take}
+use Rattle.std.specs.Prelude.{ℕ, ◌+◌, ◌-◌, ◌^◌, ◌≤◌, ◌<◌, ◌≡◌, List, ◌++◌, length, take}
 use Rattle.std.proofs.Math.Seq.{slice}
 use Rattle.std.proofs.lemmas.List.Edits.{sets}
 
@@ -7,6 +7,12 @@ use Rattle.std.proofs.lemmas.List.Edits.{sets}
 pub record Stores (old : List ℕ) (to : ℕ) (new : List ℕ) (next : ℕ) (work : List ℕ) : Type 0 where
   pub holds : work ≡ sets old to new
   pub ends : next ≡ to + length new
+
+-- a range of memory, and a place to copy it to, in which there need be no room
+pub record Copyable (work : List ℕ) (at end to : ℕ) : Type 0 where
+  pub ordered : at ≤ end
+  pub within : end ≤ length work
+  pub near : to + (end - at) < 2 ^ 64
 
 -- what is made of a range is stored behind it
 pub record Behind (work : List ℕ) (at end to : ℕ) : Type 0 where

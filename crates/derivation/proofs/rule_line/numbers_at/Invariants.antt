@@ -4,8 +4,8 @@ use lib.ListN.{length}
 use Rattle.derivation.proofs.LinePlaces.{NumbersPassed}
 use Rattle.derivation.proofs.rule_line.numbers_at.Given as goal
 
-abbrev pub invariant-loop-next : goal.invariant-loop-next
-invariant-loop-next l = NumbersPassed l.least l.greatest l.text l.at l.i l.many
+abbrev pub invariant-loop-number : goal.invariant-loop-number
+invariant-loop-number l = NumbersPassed l.least l.greatest l.text l.at l.i l.many
 
-abbrev pub decreases-loop-next : goal.decreases-loop-next
-decreases-loop-next l = length l.text - l.i
+abbrev pub decreases-loop-number : goal.decreases-loop-number
+decreases-loop-number l = length l.text - l.i

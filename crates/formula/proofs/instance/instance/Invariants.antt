@@ -7,7 +7,4 @@ use Rattle.formula.proofs.instance.instance.Given as goal
 
 abbrev pub invariant-loop-i : goal.invariant-loop-i
 invariant-loop-i l =
-    (l.at ≤ l.i) × (l.i ≤ l.end) × (l.held ≤ (l.i - l.at) * 4294967296) × Ahead l.initial.work l.to (words_with l.x l.v (slice l.at l.end l.initial.work) 0) l.work l.j (words_with l.x l.v (slice l.i l.end l.initial.work) l.held)
-
-abbrev pub decreases-loop-i : goal.decreases-loop-i
-decreases-loop-i l = l.end - l.i
+    (l.held ≤ (l.i - l.at) * 4294967296) × Ahead l.initial.work l.to (words_with l.x l.v (slice l.at l.end l.initial.work) 0) l.work l.j (words_with l.x l.v (slice l.i l.end l.initial.work) l.held)

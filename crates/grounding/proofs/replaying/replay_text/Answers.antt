@@ -1,37 +1,24 @@
 -- `replaying::replay_text`: the heading's two lines, and the rest.
-use native.Mathlib.Omega.{arith}
-use Prim.Native.Nat.{ℕ}
-use mathlib.Core.Path.{refl}
-use mathlib.Core.List.{List}
-use Rattle.steps.specs.memory.Held.{Held}
-use Rattle.steps.specs.memory.Steps.{rows_in, held_in}
 use Rattle.grounding.proofs.Turns.{version-refused, grounder-refused, grounder_on}
 use Rattle.grounding.proofs.replaying.replay_text.Goals as goal
-use Rattle.grounding.proofs.replaying.replay_text.Goals.{Start}
 
--- what memory holds, and the rows
-module _ (start : Start) where
-  abbrev memory : Held
-  memory = held_in start.args.layout start.args.live start.args.work.now
+pub returns-in_default-clause-told : goal.returns-in_default-clause-told
+returns-in_default-clause-told c =
+    let f = rw (c.new-reader.ensures.0, c.new-reader.ensures.1) at c.in_default.ensures.read in
+    rw (c.malformed.ensures.0, c.malformed.ensures.1) (version-refused c.args.table.now c.args.memory.now c.args.text.now f)
 
-  abbrev rows : List ℕ
-  rows = rows_in start.args.layout start.args.work.now
+pub returns-in_default-grounder-clause-told : goal.returns-in_default-grounder-clause-told
+returns-in_default-grounder-clause-told c =
+    let version = rw (c.new-reader.ensures.0, c.new-reader.ensures.1) at c.in-Some.ensures.read in
+    let more = rw c.new-reader.ensures.1 at c.in-Some.ensures.on.0 in
+    let f = rw (c.version.ensures.text, c.new-reader.ensures.0) at c.in_default-grounder.ensures.read in
+    rw (c.malformed-in_default-grounder.ensures.0, c.malformed-in_default-grounder.ensures.1)
+    (grounder-refused c.args.table.now c.args.memory.now c.args.text.now _ version more f)
 
-pub heading_line-requires-in-Behind : goal.heading_line-requires-in-Behind
-heading_line-requires-in-Behind c = ((c.in-Behind.ensures.0 refl).0.taken.within, omega (arith, (c.in-Behind.ensures.0 refl).1))
-
-pub replay_lines-requires : goal.replay_lines-requires
-replay_lines-requires c =
-    (c.requires.0, c.requires.1, c.requires.2, (c.in-Behind-heading_line.ensures.1 (c.in-Behind.ensures.0 refl).1).0.taken.within, c.requires.3, omega (arith, (c.in-Behind-heading_line.ensures.1 (c.in-Behind.ensures.0 refl).1).1, (c.in-Behind.ensures.0 refl).1))
-
-pub returns-in-Behind-heading_line : goal.returns-in-Behind-heading_line
-returns-in-Behind-heading_line c =
-    c.replay_lines.ensures (memory (goal.at.returns-in-Behind-heading_line c).Start) _ (grounder_on c.args.table (rows (goal.at.returns-in-Behind-heading_line c).Start) (memory (goal.at.returns-in-Behind-heading_line c).Start) c.args.text.now (c.in-Behind.ensures.0 refl) (c.in-Behind-heading_line.ensures.1 (c.in-Behind.ensures.0 refl).1))
-
-pub returns-in-Malformed-heading_line : goal.returns-in-Malformed-heading_line
-returns-in-Malformed-heading_line c =
-    grounder-refused c.args.table (rows (goal.at.returns-in-Malformed-heading_line c).Start) (memory (goal.at.returns-in-Malformed-heading_line c).Start) c.args.text.now (c.in-Behind.ensures.0 refl) _ (c.in-Malformed-heading_line.ensures.1 (c.in-Behind.ensures.0 refl).1)
-
-pub returns-in-Malformed : goal.returns-in-Malformed
-returns-in-Malformed c =
-    version-refused c.args.table (rows (goal.at.returns-in-Malformed c).Start) (memory (goal.at.returns-in-Malformed c).Start) c.args.text.now _ (c.in-Malformed.ensures.0 refl)
+pub replay_lines-requires-clause-replaying : goal.replay_lines-requires-clause-replaying
+replay_lines-requires-clause-replaying c =
+    let version = rw (c.new-reader.ensures.0, c.new-reader.ensures.1) at c.in-Some.ensures.read in
+    let more = rw c.new-reader.ensures.1 at c.in-Some.ensures.on.0 in
+    let grounder = rw (c.version.ensures.text, c.new-reader.ensures.0) at c.in-Some-grounder.ensures.read in
+    rw (c.grounder.ensures.text, c.version.ensures.text, c.new-reader.ensures.0, c.in-Some-grounder.ensures.on.1, c.in-Some.ensures.on.1, c.new-reader.ensures.2)
+    (grounder_on c.args.table.now c.args.memory.now c.args.text.now _ version more _ grounder c.in-Some-grounder.ensures.on.0)

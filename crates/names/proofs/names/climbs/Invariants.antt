@@ -1,14 +1,12 @@
 -- `names::climbs` goes over new names. The invariant: whether all climb, and to where, is whether the rest do from the greatest so far.
-use Prim.Native.Nat.{◌+◌, ◌≤◌}
 use mathlib.Core.Path.{◌≡◌}
 use Rattle.demands.specs.Theory.{climbing, highest}
 use Rattle.text.specs.memory.Numbers.{numbers_at}
+use Rattle.text.specs.memory.Listed.{numbers_left}
 use Rattle.names.proofs.names.climbs.Given as goal
 
-abbrev pub invariant-loop-left : goal.invariant-loop-left
-invariant-loop-left l =
-    (l.left ≤ l.many) × (l.place + l.left ≤ 300000) × (climbing l.top (numbers_at l.text l.at l.many) ≡ climbing l.greatest (numbers_at l.text l.place l.left))
-    × (highest l.top (numbers_at l.text l.at l.many) ≡ highest l.greatest (numbers_at l.text l.place l.left))
-
-abbrev pub decreases-loop-left : goal.decreases-loop-left
-decreases-loop-left l = l.left
+abbrev pub invariant-loop-name : goal.invariant-loop-name
+invariant-loop-name l =
+    let all = numbers_at l.text l.fn.names.at l.fn.names.many in
+    let rest = numbers_left l.name-iterator in
+    (climbing l.top all ≡ climbing l.greatest rest) × (highest l.top all ≡ highest l.greatest rest)

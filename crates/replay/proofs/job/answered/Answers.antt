@@ -1,29 +1,25 @@
 -- `job::answered`: 1, or what is judged in the first numbers of working memory, which are cleared after it.
 use borrow.Author.Rules.{rules}
 use native.Mathlib.Omega.{arith}
-use mathlib.Core.Path.{◌≡◌, sym, ◌∙◌}
-use lib.ListN.{length, take}
-use lib.Seq.{length-take-le}
+use mathlib.Core.Path.{◌≡◌, refl, ap, ◌∙◌}
+use mathlib.Core.List.{◌++◌}
+use lib.ListN.{length, take, drop, replicate}
+use lib.Seq.{length-take-le, drop_at}
+use Rattle.std.specs.Prelude.{Err, ◌≤◌}
+use Rattle.replay.specs.declared.job.Refusal.TheVariants.{Memory}
 use Rattle.replay.proofs.Concluding.{answer_little, answer-enough}
 use Rattle.replay.proofs.job.answered.Goals as goal
-use Rattle.replay.proofs.job.answered.Goals.{Else-work-size}
-
--- working memory is long enough
-long : (c : Else-work-size) → length (take c.args.size c.args.work.now) ≡ c.args.size
-long c = length-take-le c.args.size c.args.work.now (omega (arith, c.if-work-size.false))
 
 pub returns-then-work-size : goal.returns-then-work-size
 returns-then-work-size c =
-    answer_little c.args.compare c.args.problem.now c.args.theory.now c.args.derivation.now c.args.claim.now c.args.output.now c.args.work.now _ (omega (arith, c.if-work-size.true, c.requires)) c.refused.ensures
-
-pub slice_bounds-judged_short-end-2 : goal.slice_bounds-judged_short-end-2
-slice_bounds-judged_short-end-2 c = sym (long (goal.at.slice_bounds-judged_short-end-2 c).Else-work-size)
-
-pub judged_short-answer-requires : goal.judged_short-answer-requires
-judged_short-answer-requires c = long (goal.at.judged_short-answer-requires c).Else-work-size ∙ c.requires
+    answer_little _ _ _ _ _ _ _ (Err Memory) _ c.answer.ensures (omega (arith, c.if-work-size.true)) refl
 
 pub returns : goal.returns
 returns c =
-    let same : length c.judged_short-answer.new.work ≡ length (take c.args.size c.args.work.now) = search rules in
-    answer-enough c.args.compare c.args.problem.now c.args.theory.now c.args.derivation.now c.args.claim.now c.args.output.now c.args.work.now _ c.args.size c.requires (omega (arith, c.if-work-size.false))
-    c.judged_short-answer.new.work _ _ (same ∙ long (goal.at.returns c).Else-work-size) c.judged_short-answer.ensures c.clear.ensures
+    let size = c.args.size in
+    let work = c.args.work.now in
+    let room : size ≤ length work = omega (arith, c.if-work-size.false) in
+    let kept : length c.judged_short-outcome.new.work ≡ length (take size work) = search rules in
+    let long : length c.judged_short-outcome.new.work ≡ size = kept ∙ length-take-le size work room in
+    answer-enough _ _ _ _ _ _ _ _ _ c.answer-2.ensures size c.requires room _ _ c.judged_short-outcome.ensures
+    (c.clear.ensures ∙ ap (λ s. replicate size 0 ++ s) (drop_at c.judged_short-outcome.new.work (drop size work) size long))

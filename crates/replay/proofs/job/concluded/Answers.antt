@@ -5,12 +5,16 @@ use Rattle.replay.proofs.job.concluded.Goals as goal
 
 pub returns-then-cursor-output : goal.returns-then-cursor-output
 returns-then-cursor-output c =
-    conclude_long c.printed-cursor.ensures c.if-cursor-output.true c.refused.ensures
+    let so = rw c.claimed-compared.ensures at c.printed-cursor.ensures in
+    conclude_long _ _ so c.if-cursor-output.true
 
 pub returns-then-not-agrees : goal.returns-then-not-agrees
 returns-then-not-agrees c =
-    conclude_other c.printed-cursor.ensures c.agrees.ensures (omega (arith, c.if-cursor-output.false)) c.if-not-agrees.true c.refused-then-not-agrees.ensures
+    let so = rw c.claimed-compared.ensures at c.printed-cursor.ensures in
+    conclude_other _ _ so c.agrees.ensures (omega (arith, c.if-cursor-output.false)) c.if-not-agrees.true
 
 pub returns : goal.returns
 returns c =
-    conclude_all c.printed-cursor.ensures c.agrees.ensures (omega (arith, c.if-cursor-output.false)) c.if-not-agrees.false c.printed.ensures c.accepted.ensures
+    let so = rw c.claimed-compared.ensures at c.printed-cursor.ensures in
+    let stored = rw c.claimed-compared.ensures at c.printed.ensures in
+    conclude_all _ _ so c.agrees.ensures (omega (arith, c.if-cursor-output.false)) c.if-not-agrees.false stored

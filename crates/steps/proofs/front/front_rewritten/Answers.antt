@@ -3,14 +3,10 @@ use native.Mathlib.Omega.{arith}
 use Rattle.words.proofs.memory.Storing.{fronted}
 use Rattle.steps.proofs.front.front_rewritten.Goals as goal
 
-pub rewrite-total-requires : goal.rewrite-total-requires
-rewrite-total-requires c =
-    (record { here = c.requires.0.here; apart = c.requires.0.apart; within = omega (arith, c.requires.0.room); long = c.requires.0.long }, c.requires.1)
-
 pub returns-then-total-next : goal.returns-then-total-next
 returns-then-total-next c =
     record { sized = c.rewrite-total.ensures.sized; stands = λ s. absurd (omega (arith, c.if-total-next.true, s)) }
 
 pub returns : goal.returns
 returns c =
-    fronted _ _ _ _ _ _ c.rewrite-total.ensures.holds c.rewrite-total.ensures.sized (omega (arith, c.if-total-next.false)) c.requires.0.room c.copy_back.ensures.holds
+    fronted _ _ _ _ _ _ c.rewrite-total.ensures.holds c.rewrite-total.ensures.sized (omega (arith, c.if-total-next.false)) c.requires.0.room c.copy.ensures.holds

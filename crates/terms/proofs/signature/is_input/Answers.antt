@@ -1,23 +1,17 @@
--- `signature::is_input` looks at one input predicate after another. The invariant: the name is an input's if it is among those that are left.
+-- `signature::is_input` asks each input's index for the name: those are the problem's inputs.
+use borrow.Author.Rules.{rules}
 use native.Mathlib.Omega.{arith}
-use Prim.Native.Nat.{◌+◌, ◌-◌}
-use mathlib.Core.Path.{◌≡◌, sym, ◌∙◌}
-use Rattle.table.specs.memory.Table.{table_predicate}
-use Rattle.terms.proofs.memory.Signature.{input_first, named_none, named_here, named-next}
+use mathlib.Core.Path.{refl, ◌∙◌}
+use Rattle.std.proofs.Common.{ℕ, Bool, tests}
+use Rattle.std.proofs.lemmas.Iterator.{YieldsList-from_range}
+use Rattle.std.proofs.lemmas.Iterator.Search.{any_from_yields_List}
+use Rattle.grammar.specs.Bytes.{same}
+use Rattle.table.specs.memory.Table.{table_name}
+use Rattle.terms.proofs.memory.Signature.{input_in_table}
 use Rattle.terms.proofs.signature.is_input.Goals as goal
-
-pub loop-i-init : goal.loop-i-init
-loop-i-init c = (omega arith, input_first c.args.problem.now c.args.table c.args.name.now)
-
-pub returns-then-is_named : goal.returns-then-is_named
-returns-then-is_named c =
-    sym (c.loop-i.invariant.1 ∙ named_here (table_predicate c.args.problem.now c.args.table) c.loop-i.i c.args.name.now (c.args.table.inputs - c.loop-i.i) (omega arith) _ c.is_named.ensures c.if-is_named.true)
-
-pub loop-i-preserved : goal.loop-i-preserved
-loop-i-preserved c =
-    let e : c.args.table.inputs - c.loop-i.i - 1 ≡ c.args.table.inputs - (c.loop-i.i + 1) = omega arith in
-    (omega arith, c.loop-i.invariant.1 ∙ named-next (table_predicate c.args.problem.now c.args.table) c.loop-i.i c.args.name.now (c.args.table.inputs - c.loop-i.i) (omega arith) _ c.is_named.ensures c.if-is_named.false ∙ rw e)
 
 pub returns : goal.returns
 returns c =
-    sym (c.loop-i.invariant.1 ∙ named_none (table_predicate c.args.problem.now c.args.table) c.loop-i.i c.args.name.now (c.args.table.inputs - c.loop-i.i) (omega arith))
+    let test : ℕ → Bool = λ i. same c.args.name.now (table_name c.args.problem.now c.args.table.now i) in
+    any_from_yields_List test _ _ _ c.any.ensures.ran (YieldsList-from_range 0 c.args.table.now.inputs c.args.table.now.inputs refl (omega arith)) (λ x b q k. search (rules, tests))
+    ∙ input_in_table c.args.problem.now c.args.table.now c.args.name.now

@@ -1,30 +1,21 @@
 -- `term::read_element` stores the word of a number, if it is small enough to be told.
-use native.Mathlib.Omega.{arith}
-use mathlib.Core.Path.{subst}
-use Rattle.text.specs.memory.Numbers.{ToldNumber}
+use mathlib.Core.Path.{sym, ap, ◌∙◌}
+use Rattle.grammar.specs.Problem.{is_element}
+use Rattle.terms.specs.memory.Entries.{setting_of}
+use Rattle.terms.proofs.memory.Signature.{domain_table}
 use Rattle.terms.proofs.memory.TermReads.{element-found, element-large, element-refused}
 use Rattle.terms.proofs.term.read_element.Goals as goal
 
-pub overflow_mul-value : goal.overflow_mul-value
-overflow_mul-value c =
-    let f = subst (ToldNumber c.args.text.now c.args.at) c.in-Value.is c.number_at.ensures in
-    omega (arith, f.small)
+pub returns-in_err-value : goal.returns-in_err-value
+returns-in_err-value c =
+    rw c.from_residual.ensures (element-refused (setting_of c.args.setting.now) c.args.at c.in_err-value.ensures)
 
-pub overflow_add-value : goal.overflow_add-value
-overflow_add-value c =
-    let f = subst (ToldNumber c.args.text.now c.args.at) c.in-Value.is c.number_at.ensures in
-    omega (arith, f.small)
+pub returns-in-Some : goal.returns-in-Some
+returns-in-Some c =
+    rw (c.set.ensures, c.word.ensures)
+    (element-found _ _ _ _ _ c.in-Some.value _ _ (rw c.in-Some.is at c.in_ok-value.ensures)
+    (c.is_element-named.ensures ∙ ap (λ n. is_element n c.in-Some.value) (sym (domain_table c.args.setting.now.problem.now c.args.setting.now.table.now))))
 
-pub returns-in-Value : goal.returns-in-Value
-returns-in-Value c =
-    λ bound names.
-    rw (c.set_number.ensures, c.is_element.ensures)
-    (element-found c.args.text.now c.args.domain bound c.args.at names c.args.work.now c.args.to c.in-Value.value c.in-Value.next (subst (ToldNumber c.args.text.now c.args.at) c.in-Value.is c.number_at.ensures))
-
-pub returns-in-Beyond : goal.returns-in-Beyond
-returns-in-Beyond c =
-    λ bound names. element-large c.args.text.now c.args.domain bound c.args.at names c.args.work.now c.args.to c.in-Beyond.next c.requires.1 (subst (ToldNumber c.args.text.now c.args.at) c.in-Beyond.is c.number_at.ensures)
-
-pub returns-in-Malformed : goal.returns-in-Malformed
-returns-in-Malformed c =
-    λ bound names. element-refused c.args.text.now c.args.domain bound c.args.at names c.args.work.now c.args.to (subst (ToldNumber c.args.text.now c.args.at) c.in-Malformed.is c.number_at.ensures)
+pub returns-in-None : goal.returns-in-None
+returns-in-None c =
+    element-large _ _ _ _ _ _ (rw domain_table c.args.setting.now.elements) (rw c.in-None.is at c.in_ok-value.ensures)

@@ -1,32 +1,17 @@
--- `store::copy` copies a range to a later place. The invariant: what is left of the range is still to be stored.
+-- `store::copy` copies a range within memory, as far as there is room.
 use native.Mathlib.Omega.{arith}
-use lib.Seq.{length-slice}
-use Rattle.words.proofs.memory.Storing.{ahead_start, ahead_turn, ahead_end, ahead_length, ahead_read, slice_next, slice_none}
+use mathlib.Core.Path.{◌≡◌, sym, ap, ◌∙◌}
+use Prim.Native.Nat.{ℕ, ◌+◌, ◌-◌}
+use Rattle.words.proofs.memory.Storing.{copied_size, copied_none, copied_some}
 use Rattle.words.proofs.store.copy.Goals as goal
-
-pub loop-i-init : goal.loop-i-init
-loop-i-init c = (omega arith, omega arith, ahead_start _ _ _)
-
-pub offset_bounds-work-i : goal.offset_bounds-work-i
-offset_bounds-work-i c = omega (arith, ahead_length c.loop-i.invariant.2)
-
-pub bounds-work-i : goal.bounds-work-i
-bounds-work-i c = omega (arith, ahead_length c.loop-i.invariant.2)
-
-pub put-j-requires : goal.put-j-requires
-put-j-requires c =
-    omega (arith, c.loop-i.invariant.2.ends, length-slice c.args.at c.args.end c.args.work.now (omega arith))
-
-pub loop-i-preserved : goal.loop-i-preserved
-loop-i-preserved c = (
-  omega arith,
-  omega arith,
-  ahead_turn c.loop-i.invariant.2 (rw (ahead_read c.loop-i.invariant.2 c.loop-i.i (omega arith)) (slice_next c.loop-i.i c.args.end c.args.work.now (omega arith) (omega arith))) c.put-j.ensures,
-)
-
-pub shape_of-work : goal.shape_of-work
-shape_of-work c = ahead_length c.loop-i.invariant.2
+use Rattle.words.proofs.store.copy.Goals.{then-to-work, else-to-work}
 
 pub returns : goal.returns
 returns c =
-    ahead_end c.loop-i.invariant.2 (slice_none c.loop-i.i c.args.end c.args.work.now (omega arith))
+    let ends = ap (λ (n : ℕ). c.args.to + n) (sym (copied_size c.requires)) in
+    elim c.if-to-work.branch [
+      | then-to-work w ↦
+          let same : c.args.at + w.min-room.result - c.args.at ≡ w.min-room.result = omega arith in
+          record { holds = w.work-is ∙ w.copy_within.ensures.after ∙ rw same (sym (copied_some c.requires _ w.if-to-work.true w.min-room.ensures)); ends = ends }
+      | else-to-work w ↦ record { holds = w.work-is ∙ sym (copied_none c.requires w.if-to-work.false); ends = ends }
+    ]

@@ -1,12 +1,9 @@
 -- `word::are_elements` goes through terms up to the first that is no element. The invariant: the answer is that of the terms from here.
-use Prim.Native.Nat.{◌+◌, ◌≤◌}
+use Prim.Native.Nat.{◌+◌, ◌-◌}
 use mathlib.Core.Path.{◌≡◌}
 use lib.ListN.{drop}
 use Rattle.words.specs.memory.Kinds.{elements_at}
 use Rattle.words.proofs.word.are_elements.Given as goal
 
-abbrev pub invariant-loop-pending : goal.invariant-loop-pending
-invariant-loop-pending l = (l.pending ≤ l.count) × (l.i + l.pending ≡ l.at + l.count) × (elements_at l.count (drop l.at l.work) ≡ elements_at l.pending (drop l.i l.work))
-
-abbrev pub decreases-loop-pending : goal.decreases-loop-pending
-decreases-loop-pending l = l.pending
+abbrev pub invariant-loop-i : goal.invariant-loop-i
+invariant-loop-i l = elements_at l.count (drop l.at l.work) ≡ elements_at (l.at + l.count - l.i) (drop l.i l.work)

@@ -1,9 +1,0 @@
--- `say::fill` reads into what is left of the buffer, which shrinks with each turn.
-use Rattle.std.proofs.Common.{length, ◌-◌, ◌≤◌}
-use Rattle.casefile.proofs.say.fill.Given as goal
-
-abbrev pub invariant-loop-size : goal.invariant-loop-size
-invariant-loop-size g l = l.size ≤ length l.buffer
-
-abbrev pub decreases-loop-size : goal.decreases-loop-size
-decreases-loop-size g l = length l.buffer - l.size

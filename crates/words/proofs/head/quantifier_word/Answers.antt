@@ -1,8 +1,0 @@
--- `head::quantifier_word` gives the word of a quantifier, by its side.
-use Rattle.words.proofs.head.quantifier_word.Goals as goal
-
-pub returns-then-every : goal.returns-then-every
-returns-then-every c = rw c.if-every.true
-
-pub returns : goal.returns
-returns c = rw c.if-every.false
