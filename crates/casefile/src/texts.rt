@@ -5,6 +5,7 @@ ghost use Rattle.std.specs.Iterator.{at_most};
 use text::line::line_end;
 
 // A text of a file: its name, its own bytes, and the file from its first byte on, of which `size` bytes are its lines.
+// A text as it stands in the file, and the file from there on with the text's size: an escape at the text's end may read on behind it.
 #[derive(Clone, Copy)]
 pub struct Section<'a> {
     pub name: &'a [u8],

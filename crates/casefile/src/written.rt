@@ -46,6 +46,7 @@ fn braced<'a>(rest: &'a [u8], out: &mut impl Write) -> Result<&'a [u8]>
     Ok(behind(rest, end + 1))
 }
 
+// A digit from 0 to f. By hand: the library's takes capitals too, which are 0 here.
 fn hex(b: u8) -> u8
     ensures { result ≤ 15 }
 {

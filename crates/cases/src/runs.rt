@@ -15,7 +15,7 @@ const ROOM: usize = 65600;
 
 const WORK: usize = 16400;
 
-// A text that is set.
+// A text that is set, in room of its own, as there is no heap.
 #[derive(Drop)]
 struct Text {
     room: [u8; ROOM],
@@ -71,6 +71,7 @@ enum Job {
     Replay,
 }
 
+// What a line of the file asks for. An enum and no closure: what is read of a line can't hand one out.
 #[derive(Clone, Copy)]
 enum Command {
     Problem,
@@ -110,6 +111,7 @@ fn command_of(line: &[u8]) -> Option<Command> {
     }
 }
 
+// Output and memory are lent side by side, as to the jobs.
 fn answer(job: Job, setting: &Setting, output: &mut [u8], work: &mut [u32]) -> Answer {
     let problem = setting.problem.bytes();
     let theory = setting.theory.bytes();

@@ -1,4 +1,5 @@
-// What the desk sees: 0 with the counts of rule lines and final formulas, or a refusal with its number, file and line.
+// What the desk sees: 0 with the counts of rule lines and final formulas, or a refusal with its number, file and line. Five numbers, since the
+// promises of the public jobs name each.
 #[derive(Clone, Copy)]
 pub struct Answer {
     pub number: u32,

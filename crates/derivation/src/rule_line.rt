@@ -62,7 +62,8 @@ enum Kind {
 }
 
 // What stands at a place of a text. Each function reads on where the one before it ended, so a place with its text and its bound would be
-// made anew at every step, and be no plainer than the two parameters.
+// made anew at every step, and be no plainer than the two parameters. What is known of a value that was read stands at the function: `Read` is
+// of any value.
 
 // The place after a word.
 #[tactic(auto, unfolding(grammar::specs::Reading::word))]
@@ -220,7 +221,7 @@ const KINDS: [(&[u8], Kind); 10] = [
     (b"FINAL IDS : ", Kind::Footer),
 ];
 
-// The first of some kinds whose word stands at a place.
+// The first of some kinds whose word stands at a place: told by the reader of the kinds, as the signs of formulas are told by what they open.
 fn kind_among(text: &[u8], at: usize, kinds: &[(&[u8], Kind)]) -> Option<Read<Kind>>
     requires { at ≤ length text.now }
     ensures { Told 10 (one_of (map entry_of kinds.now) (refuse 10)) reader_of text.now at result }

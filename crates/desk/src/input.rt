@@ -20,6 +20,7 @@ impl File {
     }
 }
 
+// All four, with a claim: the job's own texts are private, and may have none.
 #[derive(Clone, Copy)]
 pub struct Texts<'a> {
     pub problem: &'a [u8],

@@ -12,7 +12,8 @@ use words::head::truth_word;
 use words::store::{copy, put};
 use words::walk::past;
 
-// What was decided of the formula from `at` to `end`; the flags are those of the elements, for IQ. A formula that no rule fits is copied.
+// What was decided of the formula from `at` to `end`; the flags are those of the elements, for IQ. A formula that no rule fits is copied. Flags
+// stand beside what fits: of the rules one alone has them, and its definition takes them apart.
 fn store_decided(
     work: &mut [u32],
     at: usize,

@@ -22,7 +22,7 @@ impl Fault {
         }
     }
 
-    // The statement's number of the file.
+    // The statement's number of the file, by a method as the fault's own number.
     pub fn file(self) -> u32
         ensures { result ≡ file_of self }
     {

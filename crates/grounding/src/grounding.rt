@@ -42,7 +42,7 @@ impl Grounded<'_> {
     }
 }
 
-// One for each text: an `impl From` is of one type.
+// One for each text. A generic refusal would not spare them: an `impl From` for each fault would overlap with the library's `From<T> for T`.
 impl From<problem_line::Refusal> for Refusal {
     ghost from_gives = { λ r g. g ≡ record { fault = Problem r.fault; line = r.line } };
 

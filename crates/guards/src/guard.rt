@@ -100,7 +100,7 @@ impl Guards<'_> {
         value_of(peek(self.work, at), values) == value_of(peek(self.work, at + 1), values)
     }
 
-    // The value of the formula at a place.
+    // The value of the formula at a place. Levels and values change from call to call as the place does.
     // That the place is within memory stands at each function, since each call has another place: no field of the struct can hold it.
     #[tactic(auto, using(crate::proofs::memory::Values::kinds_told))]
     #[cycle(value)]

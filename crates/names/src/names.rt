@@ -16,7 +16,8 @@ pub fn index_of(list: &[u32], name: u32) -> Option<usize>
     list.iter().position(|held| *held == name)
 }
 
-// The last of some names of a text, if each is greater than every name before it, from the greatest used on.
+// The last of some names of a text, if each is greater than every name before it, from the greatest used on. Text and names stand side by side, here
+// and below: the names come from a line, which has no text, and each function goes through them once.
 pub fn climbs(text: &[u8], names: Numbers, top: u32) -> Option<u32>
     ensures { ToldClimb top (numbers_at text.now names.at names.many) result }
 {

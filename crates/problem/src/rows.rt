@@ -21,7 +21,7 @@ pub struct RowKept {
     pub rank: u32,
 }
 
-// Rows that may stand: how many, and the rank of the last.
+// Rows that may stand: how many, and the rank of the last; 0 before the first, since every rank is 1 or more, and one comparison tells both.
 #[derive(Clone, Copy)]
 pub struct RowsKept {
     pub count: u32,
@@ -83,7 +83,7 @@ impl Awaited {
         })
     }
 
-    // One element more is read.
+    // One element more is read. Text, place and memory stay parameters: each call has another place, and the rows are lent for the call.
     fn element_at(
         &self,
         text: &[u8],

@@ -18,7 +18,7 @@ pub enum Fault {
 }
 
 impl Fault {
-    // The statement's number for it, so that callers need no cast.
+    // A method and no `From`: `fault.number()` says what the number is, and `u32::from(fault)` does not.
     pub fn number(self) -> u32
         ensures { result ≡ number_of self }
     {

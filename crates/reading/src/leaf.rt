@@ -70,6 +70,7 @@ fn read_atom(
     let found = setting
         .table
         .find(setting.problem, name.value.of(setting.text));
+    // A predicate that is not known has the index behind all, and the formula is refused when its line is judged.
     let index = found.unwrap_or(setting.table.count);
     set(work, to, Tag::Atom.word(count as u32 * 256 + index));
     Some(Read {

@@ -25,7 +25,8 @@ const OPENINGS: [(&[u8], Opening); 8] = [
     (b"<=>(", Opening::Connective(Sign::Equivalent)),
 ];
 
-// The first of some signs whose word stands at a place.
+// The first of some signs whose word stands at a place. A loop of its own beside that of derivation lines: this one is told by what a formula opens
+// with, the other by a reader, and a shared one would be told by neither.
 fn opening_among(text: &[u8], at: usize, openings: &[(&[u8], Opening)]) -> Option<Read<Opening>>
     requires { at ≤ length text.now }
     ensures { result ≡ opening_among at (drop at text.now) openings.now }

@@ -191,7 +191,7 @@ impl Texts<'_> {
     }
 }
 
-// The four texts stand side by side: each has a lifetime of its own in the jobs' signatures, and a struct takes one for all.
+// What the public jobs are given, in their order, with a claim or none.
 fn answered<'a>(
     problem: &'a [u8],
     theory: &'a [u8],

@@ -8,7 +8,8 @@ use formula::decide::Fit;
 use formula::rewrite::rewrite;
 use words::store::{copy, without_word};
 
-// What was decided is done on the formula at `at`. A theory of more words than there is room for stays behind.
+// What was decided is done on the formula at `at`. A theory of more words than there is room for stays behind: a size and no Option, since the
+// caller judges it by the statement's limit. The places that range and room begin at change from call to call.
 pub fn front_rewritten(
     words: &mut [u32],
     at: usize,

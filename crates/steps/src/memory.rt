@@ -4,7 +4,7 @@ ghost use Rattle.steps.specs.memory.Steps.{Arranged, Few};
 
 use crate::live::{Layout, Live};
 
-// Working memory, where its parts begin, and the live formulas in it.
+// Working memory, where its parts begin, and the live formulas in it: words and names in lent memory, as there is no heap.
 #[derive(Drop)]
 pub struct Memory<'a> {
     pub work: &'a mut [u32],

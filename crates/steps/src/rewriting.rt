@@ -18,7 +18,7 @@ use table::structure::Structure;
 use table::table::Table;
 use text::size::{DOMAIN_SIZE, LEVEL_COUNT, THEORY_SIZE};
 
-// What is decided of a formula, and the elements that count for IQ.
+// What is decided of a formula, and the elements that count for IQ; for other rules none does, and nothing looks at them.
 #[derive(Clone, Copy)]
 struct Decision {
     fit: Fit,

@@ -15,7 +15,8 @@ pub struct Predicate {
     pub rows: u32,
 }
 
-// The first predicates are the inputs, the others the outputs, in the problem's order.
+// The first predicates are the inputs, the others the outputs, in the problem's order. The room is fixed, as there is no heap. That the elements
+// are few is no ghost field: a name is found, and a row held, in every table.
 #[derive(Clone, Copy)]
 pub struct Table {
     pub domain: u32,
@@ -25,7 +26,7 @@ pub struct Table {
 }
 
 impl Predicate {
-    // What stands where there is no predicate.
+    // What stands where there is no predicate. A value and no Option: what a table says is said of every index.
     pub const NONE: Predicate = Predicate {
         name: Name { start: 0, size: 0 },
         arity: 0,
@@ -91,7 +92,7 @@ impl Table {
         more
     }
 
-    // With the place of that predicate's rows.
+    // With the place of that predicate's rows: the name's function sets other fields, and shares no more than the entry that is set.
     pub fn with_rows(&self, first: u32, rows: u32) -> Table
         requires { self.now.count < 32 }
         ensures { (result ≡ with_rows self.now first rows) × Sized self.now }

@@ -2,7 +2,7 @@
 use text::name::{Name, equal, part};
 use text::size::LEVEL_COUNT;
 
-// The first so many names: at most 32, since each takes a level.
+// The first so many names: at most 32, since each takes a level. The room is fixed, as there is no heap.
 #[derive(Clone, Copy)]
 pub struct Scope {
     pub count: u32,

@@ -6,6 +6,7 @@ use text::size::{MOST_VARIABLES, NAME_SIZE, VARIABLE_COUNT};
 // Names that the table has room for.
 const ROOM: usize = VARIABLE_COUNT + 1;
 
+// The room is fixed, as there is no heap.
 #[derive(Drop)]
 pub struct NameTable {
     pub count: u32,
@@ -47,7 +48,7 @@ impl NameTable {
             .position(|listed| equal(name, listed.of(text)))
     }
 
-    // The index behind the others, where a name is put if there is room.
+    // The index behind the others, where a name is put if there is room. The index 65 tells that there is none: `fit` then says no.
     fn add(&mut self, name: Name) -> u32
         ensures { HasAdded name self.old self.new result }
     {

@@ -33,16 +33,13 @@ impl<'a> Setting<'a> {
         }
     }
 
-    // The same, with one variable more: field by field, since `..*self` is not allowed in a struct with a ghost field.
+    // The same, with one variable more.
     pub fn binding(&self, name: Name) -> Setting<'a>
         requires { self.now.scope.count < 32 }
         ensures { BindsIn self.now name result }
     {
-        Setting {
-            text: self.text,
-            problem: self.problem,
-            table: self.table,
-            scope: self.scope.with(name),
-        }
+        let mut more = *self;
+        more.scope = self.scope.with(name);
+        more
     }
 }

@@ -5,7 +5,8 @@ ghost use Rattle.terms.specs.memory.Signature.{signature_of};
 
 use table::table::Table;
 
-// Whether there is a predicate of a name and an arity.
+// Whether there is a predicate of a name and an arity. A table has places in its problem's text and not the text: it is made while that is read,
+// and handed on without it.
 pub fn is_declared(problem: &[u8], table: &Table, name: &[u8], arity: usize) -> bool
     ensures { result ≡ declared (predicates (signature_of problem.now table.now)) name.now arity }
 {

@@ -12,7 +12,7 @@ pub enum Class {
     Printable,
 }
 
-// The byte at a place; 0 at the end.
+// The byte at a place; 0 at the end, as the statement's reader has it.
 pub fn peek(text: &[u8], at: usize) -> u8
     ensures { result ≡ next (drop at text.now) }
 {

@@ -94,7 +94,8 @@ pub fn parts_of(word: u32) -> usize
     Kind::from(word).part_count() as usize
 }
 
-// The word at a place; 0 past the end.
+// The word at a place; 0 past the end, since contracts over words are total. As one generic function with the `peek` of bytes it would take at
+// each call what stands past the end.
 pub fn peek(work: &[u32], at: usize) -> u32
     ensures { result ≡ get_or work.now at 0 }
 {
