@@ -29,7 +29,7 @@ fn one(rt: &(impl Files + Print), folder: &[u8]) -> Result<()> {
     )
 }
 
-// Each folder that a list names, one on a line. `runs::all` goes through its list alike, and lends what its runs need besides.
+// Each folder that a list names, one on a line. `runs::all` goes through its list alike.
 pub fn all(rt: &(impl Files + Print)) -> Result<()> {
     let mut room = io::buffer();
     let list = casefile::load(rt, b"folders/list", &mut room);

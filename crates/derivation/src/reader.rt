@@ -6,7 +6,7 @@ ghost use Rattle.derivation.specs.memory.RuleLines.{line_in, LineBefore, MovesOn
 
 use crate::rule_line::{Line, grounder_end, line_at, version_end};
 
-// A reader of any place, as it always was: that the place is within the text is asked where a line is read.
+// A reader of any place, as `reader_at` made one before: that the place is within the text is asked where a line is read.
 #[derive(Clone, Copy)]
 pub struct Reader<'a> {
     pub text: &'a [u8],

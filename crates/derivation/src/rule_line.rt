@@ -221,7 +221,8 @@ const KINDS: [(&[u8], Kind); 10] = [
     (b"FINAL IDS : ", Kind::Footer),
 ];
 
-// The first of some kinds whose word stands at a place: told by the reader of the kinds, as the signs of formulas are told by what they open.
+// The first of some kinds whose word stands at a place: told by the reader `one_of`. Signs of formulas are told by what they open; one function for
+// both would need a law between the two, and its two callers besides, and be no plainer.
 fn kind_among(text: &[u8], at: usize, kinds: &[(&[u8], Kind)]) -> Option<Read<Kind>>
     requires { at ≤ length text.now }
     ensures { Told 10 (one_of (map entry_of kinds.now) (refuse 10)) reader_of text.now at result }
@@ -243,7 +244,7 @@ fn kind_at(text: &[u8], at: usize) -> Option<Read<Kind>>
     kind_among(text, at, &KINDS)
 }
 
-// What follows the word of a line's kind.
+// What follows the word of a line's kind: an enum of what was read, since a closure can't be handed out.
 fn line_behind(text: &[u8], at: usize, kind: Kind) -> Option<Read<Line>>
     requires { at ≤ length text.now }
     ensures read { Told 10 (reader_of kind) (line_in text.now) text.now at result }

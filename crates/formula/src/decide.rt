@@ -86,7 +86,8 @@ fn evaluation_fit(some: bool, kind: Kind, guards: &Guards, at: usize) -> Option<
     }
 }
 
-// What a rule makes of the formula at a place; none where it does not fit, number 13.
+// What a rule makes of the formula at a place; none where it does not fit, number 13. The rule is an enum of what was read, since a closure can't be
+// handed out.
 pub fn rule_fit(rule: Rule, guards: &Guards, at: usize) -> Option<Fit>
     requires { at ≤ length guards.now.work.now }
     ensures { result ≡ rule_fit guards.now.structure.now.table.now guards.now.structure.now.rows.now rule (drop at guards.now.work.now) }

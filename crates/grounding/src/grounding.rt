@@ -42,7 +42,7 @@ impl Grounded<'_> {
     }
 }
 
-// One for each text. A generic refusal would not spare them: an `impl From` for each fault would overlap with the library's `From<T> for T`.
+// One for each text, with a refusal of its own. One generic type for the three would need a From of it and one of each fault: four where three stand.
 impl From<problem_line::Refusal> for Refusal {
     ghost from_gives = { λ r g. g ≡ record { fault = Problem r.fault; line = r.line } };
 

@@ -40,7 +40,7 @@ fn malformed(line: u32) -> Refusal
     }
 }
 
-// A rule line, done. The table is beside the memory: a memory that held it would have to say at each step that it keeps it.
+// A rule line, done: an enum of what was read, since a closure can't be handed out. The table is beside the memory: a memory that held it would have to say at each step that it keeps it.
 #[tactic(auto, unfolding(steps::specs::memory::Held::stepped_in))]
 fn step(memory: &mut Memory, text: &[u8], table: &Table, line: RuleLine) -> Result<(), Fault>
     requires { FewElements table.now.domain × ShortText text.now × RuleLineBefore line (length text.now) }

@@ -11,6 +11,7 @@ use table::table::Table;
 use words::walk::past;
 use words::word::{Kind, Sign, peek};
 
+// By hand, as a number is (`Printer::number`); so are what stands before and behind parts.
 fn truth_text(b: bool) -> &'static [u8]
     ensures { result.now ≡ truth_text b }
 {

@@ -172,7 +172,7 @@ impl Progress {
         Ok(Read { value, next })
     }
 
-    // A line, as the part asks that is read so far.
+    // A line, as the part asks that is read so far: an enum of what was read, since a closure can't be handed out.
     #[tactic(auto, using(crate::proofs::ProblemLoop::line_closing))]
     pub fn line_at(&self, text: &[u8], at: usize, rows: &mut [u32]) -> Result<Read<Progress>, Fault>
         requires { (at ≤ length text.now) × ShortText text.now × Standing text.now self.now rows.old × (1056 ≤ length rows.old) }

@@ -25,8 +25,8 @@ const OPENINGS: [(&[u8], Opening); 8] = [
     (b"<=>(", Opening::Connective(Sign::Equivalent)),
 ];
 
-// The first of some signs whose word stands at a place. A loop of its own beside that of derivation lines: this one is told by what a formula opens
-// with, the other by a reader, and a shared one would be told by neither.
+// The first of some signs whose word stands at a place: told by what a formula opens with. `kind_among` of derivation lines is told by the reader
+// `one_of`; one function for both would need a law from the first to the second, and its two callers besides, and be no plainer.
 fn opening_among(text: &[u8], at: usize, openings: &[(&[u8], Opening)]) -> Option<Read<Opening>>
     requires { at ≤ length text.now }
     ensures { result ≡ opening_among at (drop at text.now) openings.now }

@@ -191,7 +191,7 @@ impl Texts<'_> {
     }
 }
 
-// What the public jobs are given, in their order, with a claim or none.
+// The texts are put together here once, for both jobs, behind the test of memory: built in each they would stand twice.
 fn answered<'a>(
     problem: &'a [u8],
     theory: &'a [u8],

@@ -20,7 +20,7 @@ pub fn truth_word(value: bool) -> u32
 }
 
 impl Sign {
-    // A method and no `From`, as a word has more in it than a sign's tag.
+    // Private and used once: an `impl From` would be public and need a law of its own, and be no plainer.
     fn tag(self) -> Tag
         ensures { tag_number result ≡ connective_tag (connective_of self) }
     {

@@ -22,7 +22,7 @@ pub enum Tag {
 }
 
 impl Tag {
-    // The tag of a word, if it has one. An Option and no `TryFrom`: it takes a whole word, and there is no error to tell.
+    // The tag of a word, if it has one. An Option and no `TryFrom`: there is no error to tell.
     pub fn of(word: u32) -> Option<Tag>
         ensures { MatchOption result (14 ≤ word % 16) (λ tag. word % 16 ≡ tag_number tag) }
     {
