@@ -5,14 +5,14 @@ use Prim.Native.Nat.{ℕ, ◌≤◌, ◌<◌}
 use native.Mathlib.Omega.{arith}
 use mathlib.Core.Path.{◌≡◌, refl, sym, ap, subst, ◌∙◌}
 use mathlib.Core.List.{List, [], ◌++◌}
-use mathlib.Core.Bool.{Bool, true, false, ◌&&◌}
+use mathlib.Core.Bool.{Bool, true, false, cond, ◌&&◌}
 use lib.Dec.{eqb, leb}
 use lib.ListN.{length, take, drop, replicate}
 use Rattle.std.specs.Prelude.{Option, Some, None, Result, Ok, Err, is_some}
 use Rattle.std.specs.Borrow.{Bor}
 use borrow.Author.Tests.{le-leb, lt-leb, leb-true}
 use Rattle.grammar.specs.Sizes.{text_size, work_size}
-use Rattle.grammar.specs.Bytes.{Bytes, same}
+use Rattle.grammar.specs.Bytes.{Bytes}
 use Rattle.grammar.specs.Outcome.{done, refused, provided, ◌>>◌}
 use Rattle.grammar.specs.Lines.{Refusal as Refused, refusal, Judged}
 use Rattle.grammar.proofs.Laws.{and_left, and_right}
@@ -63,49 +63,50 @@ print_as : {claim s text : Bytes} {store : Bool} {p q : Print} → s ≡ text �
 print_as e so = rw e so
 
 -- what the cursor tells of a run without storing
-module _ (claim : Option (Bor Bytes)) {text : Bytes} {output new : List ℕ} {cursor : Cursor}
-    (so : Prints (claimed claim) false (first_cursor, output) text (cursor, new)) (G : Ground) (t : ground_text G ≡ text) (short : length (ground_text G) ≤ text_size) where
+module _ {claim text : Bytes} {output new : List ℕ} {cursor : Cursor} (so : Prints claim false (first_cursor, output) text (cursor, new))
+    (G : Ground) (t : ground_text G ≡ text) (short : length (ground_text G) ≤ text_size) where
   kept : new ≡ output
   kept = counted-kept short (print_as t so)
 
   long : (cursor.length ≡ length (ground_text G)) × (length new ≡ length output)
   long = (counted-length short (print_as t so), ap length kept)
 
-  told-agreed : agreed_by cursor claim ≡ agreed (is_some claim) (claimed claim) (ground_text G)
-  told-agreed = pick claim (counted_same short (print_as t so))
-    where
-      pick : (c : Option (Bor Bytes)) → (cursor.same && eqb cursor.length (length (claimed c))) ≡ same (claimed c) (ground_text G)
-          → agreed_by cursor c ≡ agreed (is_some c) (claimed c) (ground_text G)
-      pick None e = refl
-      pick (Some c) e = e
+  told-agreed : (compare : Bool) → cond compare (cursor.same && eqb cursor.length (length claim)) true ≡ agreed compare claim (ground_text G)
+  told-agreed compare = ap (λ (b : Bool). cond compare b true) (counted_same short (print_as t so))
 
 -- from the cursor of a run without storing
-module _ (claim : Option (Bor Bytes)) {text : Bytes} (counts : Counts) {output new : List ℕ} {cursor : Cursor}
-    (so : Prints (claimed claim) false (first_cursor, output) text (cursor, new)) where
-  pub conclude_long : length new < cursor.length → Concluded claim text counts output (Err Room) new
+module _ (compare : Bool) {claim text : Bytes} (counts : Counts) {output new : List ℕ} {cursor : Cursor}
+    (so : Prints claim false (first_cursor, output) text (cursor, new)) where
+  pub conclude_long : length new < cursor.length → Concluded compare claim text counts output (Err Room) new
   conclude_long h = record {
-    told = λ G t u v short. told-refusal _ (concluded_long (is_some claim) (claimed claim) output G (omega (arith, long claim so G t short, h))) refl (kept claim so G t short);
+    told = λ G t u v short. told-refusal _ (concluded_long compare claim output G (omega (arith, long so G t short, h))) refl (kept so G t short);
   }
 
-  module _ {agrees : Bool} (a : agrees ≡ agreed_by cursor claim) (room : cursor.length ≤ length new) where
-    pub conclude_other : agrees ≡ false → Concluded claim text counts output (Err (Claim cursor.line)) new
+  module _ {agrees : Bool} (a : agrees ≡ cond compare (cursor.same && eqb cursor.length (length claim)) true) (room : cursor.length ≤ length new) where
+    pub conclude_other : agrees ≡ false → Concluded compare claim text counts output (Err (Claim cursor.line)) new
     conclude_other o = record {
       told = λ G t u v short.
-          told-refusal _ (concluded_other (is_some claim) (claimed claim) output G (omega (arith, long claim so G t short, room)) (sym (a ∙ told-agreed claim so G t short) ∙ o))
-          (ap (λ (n : ℕ). answer_of (refused (refusal 19 4 n))) (counted-line short (print_as t so))) (kept claim so G t short);
+          told-refusal _ (concluded_other compare claim output G (omega (arith, long so G t short, room)) (sym (a ∙ told-agreed so G t short compare) ∙ o))
+          (ap (λ (n : ℕ). answer_of (refused (refusal 19 4 n))) (counted-line short (print_as t so))) (kept so G t short);
     }
 
     -- and of another with storing
-    pub conclude_all : {last : List ℕ} {end : Cursor} → agrees ≡ true → Prints (claimed claim) true (first_cursor, new) text (end, last)
-        → Concluded claim text counts output (Ok counts) last
+    pub conclude_all : {last : List ℕ} {end : Cursor} → agrees ≡ true → Prints claim true (first_cursor, new) text (end, last)
+        → Concluded compare claim text counts output (Ok counts) last
     conclude_all {last} {end} o stored = record {
       told = λ G t u v short.
-          let fits : length (ground_text G) ≤ length output = omega (arith, long claim so G t short, room) in
-          told_same (concluded_all (is_some claim) (claimed claim) output G fits (sym (a ∙ told-agreed claim so G t short) ∙ o)) (record {
+          let fits : length (ground_text G) ≤ length output = omega (arith, long so G t short, room) in
+          told_same (concluded_all compare claim output G fits (sym (a ∙ told-agreed so G t short compare) ∙ o)) (record {
             is = rw (u, v);
-            written = stored-text short (print_as t (rw (kept claim so G t short) at stored)) fits;
+            written = stored-text short (print_as t (rw (kept so G t short) at stored)) fits;
           });
     }
+
+-- whether a text is the whole claim, by whether there is one
+pub agreed_as : (cursor : Cursor) (claim : Option (Bor Bytes))
+    → agreed_by cursor claim ≡ cond (is_some claim) (cursor.same && eqb cursor.length (length (claimed claim))) true
+agreed_as cursor None = refl
+agreed_as cursor (Some claim) = refl
 
 -- The ground theory.
 
@@ -116,7 +117,7 @@ module _ (compare : Bool) (problem theory derivation claim : Bytes) (output : Li
 
 module _ (problem theory derivation : Bytes) (claim : Option (Bor Bytes)) (output : List ℕ) (g : Grounded) (f : GroundFound (grounded problem theory derivation) problem g) where
   pub judged_concluded : (r : Result Counts Refusal) (new words : List ℕ) → words ≡ take g.memory.live.full g.memory.work.now
-      → Concluded claim (clause_lines problem g.table 32 g.memory.live.count words) (record { rules = g.rules; formulas = g.memory.live.count }) output r new
+      → Concluded (is_some claim) (claimed claim) (clause_lines problem g.table 32 g.memory.live.count words) (record { rules = g.rules; formulas = g.memory.live.count }) output r new
       → Told (judged_of (is_some claim) problem theory derivation (claimed claim) output) output r new
   judged_concluded r new words e c =
       told_same (rw f.is) (c.told f.ground (rw e f.text) (sym f.rules) (sym f.formulas) (ground-short problem theory derivation f.ground f.is))

@@ -1,5 +1,5 @@
 // The jobs replay and check. They are one, but for the claim, which replay has not.
-ghost use Rattle.std.specs.Prelude.{◌≡◌, ◌≤◌, ℕ, ◌++◌, ◌&&◌, leb, length, drop, replicate, is_some};
+ghost use Rattle.std.specs.Prelude.{◌≡◌, ℕ, ◌&&◌, leb, length, is_some};
 ghost use Rattle.demands.specs.Answer.{result_of, replay_result, check_result};
 ghost use Rattle.demands.specs.Promise.{Promise};
 ghost use Rattle.demands.specs.memory.Conclusions.{judged_of, short_of, answered_of};
@@ -9,6 +9,7 @@ ghost use Rattle.steps.specs.memory.Steps.{Arranged};
 ghost use Rattle.replay.specs.declared.job.Refusal.TheVariants.{Text};
 ghost use Rattle.replay.specs.memory.Answers.{claimed, agreed_by, answer_by, Told, Concluded};
 
+use crate::clearing::clear;
 use demands::answer::Answer;
 use grounding::fault;
 use grounding::grounding::ground_theory;
@@ -95,14 +96,6 @@ fn layout() -> Layout
     }
 }
 
-// The first numbers are zero, and the rest as they were.
-fn clear(work: &mut [u32], count: usize)
-    requires { count ≤ length work.old }
-    ensures { work.new ≡ replicate count 0 ++ drop count work.old }
-{
-    work[..count].fill(0);
-}
-
 // The claim's bytes; none where there is no claim.
 fn claimed<'a>(claim: Option<&'a [u8]>) -> &'a [u8]
     ensures { result.now ≡ claimed claim.entry }
@@ -127,7 +120,7 @@ fn concluded(
     claim: Option<&[u8]>,
     output: &mut [u8],
 ) -> Result<Counts, Refusal>
-    ensures { Concluded claim.entry (clause_lines clauses.now.problem.now clauses.now.table.now 32 counts.formulas clauses.now.work.now) counts output.old result output.new }
+    ensures { Concluded (is_some claim.entry) (claimed claim.entry) (clause_lines clauses.now.problem.now clauses.now.table.now 32 counts.formulas clauses.now.work.now) counts output.old result output.new }
 {
     let compared = claimed(claim);
     let cursor = clauses.printed(LEVEL_COUNT, counts.formulas, compared, false, output);

@@ -1,5 +1,5 @@
 -- What the code tells of the jobs: what is answered, and what is written.
-use Rattle.std.specs.Prelude.{ℕ, ◌≤◌, ◌≡◌, List, [], Option, Some, None, Result, Ok, Err, Bool, true, ◌&&◌, eqb, length, is_some}
+use Rattle.std.specs.Prelude.{ℕ, ◌≤◌, ◌≡◌, List, [], Option, Some, None, Result, Ok, Err, Bool, true, ◌&&◌, eqb, length}
 use Rattle.std.specs.Borrow.{Bor}
 use Rattle.grammar.specs.Sizes.{text_size}
 use Rattle.grammar.specs.Bytes.{Bytes}
@@ -44,6 +44,6 @@ pub record Told (judged : Judged Ground) (output : List ℕ) (r : Result Counts 
   pub written : new ≡ output_after judged output
 
 -- from a ground theory of which the text and the counts are known
-pub record Concluded (claim : Option (Bor Bytes)) (text : Bytes) (counts : Counts) (output : List ℕ) (r : Result Counts Refusal) (new : List ℕ) : Type 0 where
+pub record Concluded (compare : Bool) (claim text : Bytes) (counts : Counts) (output : List ℕ) (r : Result Counts Refusal) (new : List ℕ) : Type 0 where
   pub told : (G : Ground) → ground_text G ≡ text → G.rules ≡ counts.rules → length G.formulas ≡ counts.formulas → length (ground_text G) ≤ text_size
-      → Told (concluded_of (is_some claim) (claimed claim) output G) output r new
+      → Told (concluded_of compare claim output G) output r new
