@@ -19,23 +19,23 @@ pub fn peek(text: &[u8], at: usize) -> u8
     text.get(at).copied().unwrap_or(0)
 }
 
-// By the library, told in the statement's words; so are the next two.
+// By ranges, as the statement classes each byte; so are the next two, and the printable bytes.
 pub fn is_digit(b: u8) -> bool
     ensures { result ≡ is_digit b }
 {
-    b.is_ascii_digit()
+    matches!(b, b'0'..=b'9')
 }
 
 pub fn is_capital(b: u8) -> bool
     ensures { result ≡ is_capital b }
 {
-    b.is_ascii_uppercase()
+    matches!(b, b'A'..=b'Z')
 }
 
 pub fn is_small(b: u8) -> bool
     ensures { result ≡ is_small b }
 {
-    b.is_ascii_lowercase()
+    matches!(b, b'a'..=b'z')
 }
 
 impl Class {
@@ -47,7 +47,7 @@ impl Class {
             Class::Digit => is_digit(b),
             Class::SmallOrDigit => is_small(b) || is_digit(b),
             Class::LetterOrDigit => is_capital(b) || is_small(b) || is_digit(b),
-            Class::Printable => b.is_ascii_graphic(),
+            Class::Printable => matches!(b, b'!'..=b'~'),
         }
     }
 }
