@@ -2,11 +2,19 @@
 ghost use Rattle.std.specs.Prelude.{◌≡◌, ◌≤◌, ◌<◌, ◌+◌, ◌^◌, ◌↔◌, length, IsTrue, IfSome, option_map};
 ghost use Rattle.grammar.specs.Derivation.{read_line, read_version, read_grounder};
 ghost use Rattle.text.specs.memory.Told.{Told, ToldEnd, read_to};
-ghost use Rattle.derivation.specs.memory.RuleLines.{line_in, LineBefore, MovesOn};
+ghost use Rattle.derivation.specs.memory.RuleLines.{line_in, LineBefore, MovesOn, ToldAwaited};
 
 use crate::rule_line::{Line, grounder_end, line_at, version_end};
 
-// A reader of any place, as `reader_at` made one before: that the place is within the text is asked where a line is read.
+// A line of the derivation, as its number says what is awaited there: the version, the grounder, then rule lines and the footer.
+#[derive(Clone, Copy)]
+pub enum Awaited {
+    Version,
+    Grounder,
+    Line(Line),
+}
+
+// A reader of any place: that the place is within the text is asked where a line is read.
 #[derive(Clone, Copy)]
 pub struct Reader<'a> {
     pub text: &'a [u8],
@@ -25,6 +33,17 @@ impl<'a> Reader<'a> {
             text,
             at: 0,
             line: 1,
+        }
+    }
+
+    // Of any place, under any number of a line.
+    pub fn at(text: &'a [u8], at: usize, line: u32) -> Reader<'a>
+        ensures { (result.text ≡ text.entry) × (result.at ≡ at) × (result.line ≡ line) }
+    {
+        Reader {
+            text,
+            at,
+            line: line as usize,
         }
     }
 
@@ -82,5 +101,29 @@ impl<'a> Reader<'a> {
         let read = line_at(self.text, self.at)?;
         self.go_to(read.next);
         Some(read.value)
+    }
+
+    // The line that is awaited under the number where it stands, likewise.
+    pub fn awaited(&mut self) -> Option<Awaited>
+        requires { self.old.at ≤ length self.old.text.now }
+        ensures text { self.new.text ≡ self.old.text }
+        ensures within { self.new.at ≤ length self.new.text.now }
+        ensures read { ToldAwaited self.old.text.now self.old.at self.old.line result self.new.at }
+        ensures on { MovesOn result self.old.at self.new.at self.old.line self.new.line }
+    {
+        match self.line {
+            1 => {
+                self.version()?;
+                Some(Awaited::Version)
+            }
+            2 => {
+                self.grounder()?;
+                Some(Awaited::Grounder)
+            }
+            _ => {
+                let line = self.next_line()?;
+                Some(Awaited::Line(line))
+            }
+        }
     }
 }

@@ -1,11 +1,14 @@
 -- What the code tells of derivation lines: for each list of numbers the place of the first and how many there are.
-use Rattle.std.specs.Prelude.{ℕ, ◌+◌, ◌≤◌, ◌<◌, ◌≡◌, List, [], ◌∷◌, map, Option, Some, None}
+use Rattle.std.specs.Prelude.{ℕ, ◌+◌, ◌≤◌, ◌<◌, ◌≡◌, List, [], ◌∷◌, map, Option, Some, None, IfSome}
 use Rattle.std.specs.Borrow.{Bor}
 use Rattle.grammar.specs.Bytes.{Bytes, bytes}
 use Rattle.grammar.specs.Reading.{Reading, give, refuse, ◌⇒◌, one_of, separated}
 use Rattle.grammar.specs.Derivation.{Position, Rule, SNAND, SNOR, STN, EPRED, EPROP, IQ, RuleLine, rewrite, unsat, trivial, splitc, Line, step, footer}
-use Rattle.grammar.specs.Derivation.{read_formula_name, at_position, read_split, read_footer, line_kinds}
+use Rattle.grammar.specs.Derivation.{read_formula_name, at_position, read_split, read_footer, line_kinds, read_line, read_version, read_grounder}
+use Rattle.text.specs.memory.Found.{Refused}
+use Rattle.text.specs.memory.Told.{Told, Ends, read_to}
 use Rattle.text.specs.memory.Numbers.{numbers_at}
+use Rattle.text.specs.declared.read.Read.{Read}
 use Rattle.text.specs.declared.number.Numbers.{Numbers}
 use Rattle.derivation.specs.declared.rule_line.Rule.{Rule as RuleName}
 use Rattle.derivation.specs.declared.rule_line.Rule.TheVariants.{Snand, Snor, Stn, Epred, Eprop, Iq}
@@ -18,6 +21,8 @@ use Rattle.derivation.specs.declared.rule_line.RuleLine.{RuleLine as RuleLineRea
 use Rattle.derivation.specs.declared.rule_line.RuleLine.TheVariants as rule_line
 use Rattle.derivation.specs.declared.rule_line.Line.{Line as LineRead}
 use Rattle.derivation.specs.declared.rule_line.Line.TheVariants as line
+use Rattle.derivation.specs.declared.reader.Awaited.{Awaited}
+use Rattle.derivation.specs.declared.reader.Awaited.TheVariants as awaited
 
 abbrev pub rule_of : RuleName → Rule
 rule_of Snand = SNAND
@@ -66,6 +71,11 @@ abbrev pub LineBefore : LineRead → ℕ → Type 0
 LineBefore (line.Step l) next = RuleLineBefore l next
 LineBefore (line.Footer names) next = NumbersBefore names next
 
+-- a line is read, which takes a byte at least, and its numbers stand before the place behind it
+abbrev pub ToldLine : Reading Line → Bytes → ℕ → Option (Read LineRead) → Type 0
+ToldLine reader text at told =
+    Told 10 reader (line_in text) text at told × IfSome told (λ r. (at < r.next) × LineBefore r.value r.next)
+
 -- The kinds of a line.
 
 -- what is read behind a kind's word
@@ -85,6 +95,26 @@ read_kind = one_of (map (λ k. k.0 ⇒ give k.1) line_kinds) (refuse 10)
 -- the footer's names
 abbrev pub read_final_names : Reading (List ℕ)
 read_final_names = one_of (bytes "-" ⇒ give [] ∷ []) (separated 44 read_formula_name)
+
+-- What is awaited under a line's number, with the place behind what is read.
+
+-- a line of the heading
+abbrev pub ToldHeading : {A : Type 0} → Reading A → Awaited → Bytes → ℕ → Option Awaited → ℕ → Type 0
+ToldHeading reader heading text at None next = Refused 10 reader text at
+ToldHeading reader heading text at (Some told) next = Ends reader text at next × (told ≡ heading)
+
+-- a rule line or the footer
+abbrev pub ToldRule : Bytes → ℕ → Option Awaited → ℕ → Type 0
+ToldRule text at None next = Refused 10 read_line text at
+ToldRule text at (Some awaited.Version) next = ⊥
+ToldRule text at (Some awaited.Grounder) next = ⊥
+ToldRule text at (Some (awaited.Line l)) next = ToldLine read_line text at (Some (read_to next l))
+
+-- the version is line 1, the grounder line 2; rule lines and the footer follow
+pub record ToldAwaited (text : Bytes) (at number : ℕ) (told : Option Awaited) (next : ℕ) : Type 0 where
+  pub version : number ≡ 1 → ToldHeading read_version awaited.Version text at told next
+  pub grounder : number ≡ 2 → ToldHeading read_grounder awaited.Grounder text at told next
+  pub rule : 3 ≤ number → ToldRule text at told next
 
 -- A reader, by its place and its line's number: behind a line that it reads the next has the next number, and where none is read it stays.
 abbrev pub MovesOn : {T : Type 0} → Option T → ℕ → ℕ → ℕ → ℕ → Type 0
