@@ -15,6 +15,7 @@ use Rattle.std.specs.Borrow.{Bor}
 use Rattle.grammar.specs.Sizes.{grounder_size}
 use Rattle.grammar.specs.Bytes as bytes
 use Rattle.grammar.specs.Bytes.{Bytes, begins, is_printable, span}
+use Rattle.grammar.specs.Outcome.{Outcome}
 use Rattle.grammar.specs.Reading.{Reading, give, refuse, ◌>>=◌, word, token, ◌⇒◌, one_of, separated}
 use Rattle.grammar.specs.Derivation.{Line, is_grounder, read_ranged, line_kinds, read_line}
 use Rattle.grammar.proofs.Derivation.{reads_ranged}
@@ -27,7 +28,7 @@ use Rattle.text.specs.declared.read.Read.{Read}
 use Rattle.text.specs.memory.Numbers.{number_at, number_end, numbers_at}
 use Rattle.text.proofs.Found.{found-give, found-later, found-token, refused-token}
 use Rattle.text.proofs.Told.{found-by_word, one_of_on}
-use Rattle.derivation.specs.memory.RuleLines.{line_in, reader_of, entry_of, read_kind}
+use Rattle.derivation.specs.memory.RuleLines.{line_in, ToldLine, reader_of, entry_of, read_kind}
 use Rattle.derivation.specs.declared.rule_line.Kind.{Kind}
 use Rattle.derivation.specs.declared.rule_line.Line.{Line as LineRead}
 
@@ -157,6 +158,11 @@ by_kind (k ∷ kinds) s = pick (begins k.0 s) (by_kind kinds s)
     pick true e = refl
     pick false e = e
 
+-- the outcome is what another reader makes of the text from a place on
+pub record Behind (outcome : Outcome ℕ (Line × Bytes)) (reader : Reading Line) (text : Bytes) (at next : ℕ) : Type 0 where
+  pub is : outcome ≡ reader (drop next text)
+  pub after : at ≤ next
+
 module _ (text : Bytes) (at : ℕ) where
   same_line : read_line (drop at text) ≡ (read_kind >>= λ r. r) (drop at text)
   unfolding read_line read_kind
@@ -165,8 +171,18 @@ module _ (text : Bytes) (at : ℕ) where
   pub line-unknown : Refused 10 read_kind text at → Refused 10 read_line text at
   line-unknown f = record { is = same_line ∙ rw f.is }
 
-  pub line-told : {tail : Reading Line} {mid : ℕ} → Found read_kind text at tail mid
+  pub kind-behind : {tail : Reading Line} {mid : ℕ} → Found read_kind text at tail mid → Behind (read_line (drop at text)) tail text at mid
+  kind-behind kind = record { is = same_line ∙ rw kind.is; after = kind.after }
+
+  module _ {tail : Reading Line} {mid : ℕ} (behind : Behind (read_line (drop at text)) tail text at mid) where
+    line_found : (told : Option (Read LineRead)) → Told 10 tail (line_in text) text mid told → Told 10 read_line (line_in text) text at told
+    line_found (Some read) f = record { is = behind.is ∙ f.is; after = omega (arith, behind.after, f.after); within = f.within }
+    line_found None f = record { is = behind.is ∙ f.is }
+
+    pub line-told : (told : Option (Read LineRead)) → ToldLine tail text mid told → ToldLine read_line text at told
+    line-told (Some read) f = (line_found (Some read) f.0, (omega (arith, behind.after, f.1.0), f.1.1))
+    line-told None f = (line_found None f.0, tt)
+
+  pub kind-told : {tail : Reading Line} {mid : ℕ} → Found read_kind text at tail mid
       → (told : Option (Read LineRead)) → Told 10 tail (line_in text) text mid told → Told 10 read_line (line_in text) text at told
-  line-told kind (Some read) f =
-      record { is = same_line ∙ rw kind.is f.is; after = omega (arith, kind.after, f.after); within = f.within }
-  line-told kind None f = record { is = same_line ∙ rw kind.is f.is }
+  kind-told kind = line_found (kind-behind kind)
