@@ -122,6 +122,13 @@ list_unsuited : (P : Problem) (ts : List Row) (arity : ℕ) → arity ≡ 0 → 
 list_unsuited P ts zero h = refl
 list_unsuited P ts (suc arity) h = absurd (omega arith)
 
+-- what no domain, no place to store from, no tuples before them and nothing that was kept of them changes
+pub given-list_unsuited : (P : Problem) (ts : List Row) (arity : ℕ) → arity ≡ 0
+    → (rows_for P arity (tuples ts) ≡ refused 4)
+    × ((text : Bytes) (at next : ℕ) → Found read_relation text at (tuples ts) next → Refused 4 (read_rows P arity) text at)
+given-list_unsuited P ts arity h =
+    (list_unsuited P ts arity h, λ text at next f. refused_then _ f (refused-judge text next (list_unsuited P ts arity h)))
+
 -- tuples for an arity, by whether they may stand
 list-judged : (P : Problem) (a : Awaited) → Suits a P → (ts : List Row) (arity : ℕ) → (arity ≡ 0 → ⊥)
     → rows_for P arity (tuples ts) ≡ mapped (λ u. ts) (provided (rows_allowed a.domain a.total arity ts) 4)
@@ -149,8 +156,8 @@ module _ (a : Awaited) (lent : List ℕ) where
       given-truth false lent [] 0 none (λ P. refl)
       λ old same. record { stored = same; counted = refl; fit = refl; room = rw none (omega (arith, a.room)); few = omega arith }
 
-  pub given-list_unsuited : (kept : Option RowsKept) → a.arity ≡ 0 → RowsGiven a (Listed kept) lent lent None
-  given-list_unsuited kept h = record { told = λ old r told P suits. rw told.1 (list_unsuited P told.0 a.arity h) }
+  pub given_unsuited : (kept : Option RowsKept) → a.arity ≡ 0 → RowsGiven a (Listed kept) lent lent None
+  given_unsuited kept h = record { told = λ old r told P suits. rw told.1 (given-list_unsuited P told.0 a.arity h).0 }
 
   -- rows that are unfit, whatever the arity
   pub given_unfit : RowsGiven a (Listed None) lent lent None
@@ -158,7 +165,7 @@ module _ (a : Awaited) (lent : List ℕ) where
     where
       pick : (P : Problem) → Suits a P → (ts : List Row) → (1 ≤ a.arity → (more : List Row) → rows_allowed a.domain a.total a.arity (ts ++ more) ≡ false)
           → (n : ℕ) → a.arity ≡ n → rows_for P a.arity (tuples ts) ≡ refused 4
-      pick P suits ts told zero e = list_unsuited P ts a.arity e
+      pick P suits ts told zero e = (given-list_unsuited P ts a.arity e).0
       pick P suits ts told (suc n) e =
           let unfit : rows_allowed a.domain a.total a.arity ts ≡ false = rw append-nil at (told (omega arith) []) in
           list-judged P a suits ts a.arity (λ none. absurd (omega arith)) ∙ rw unfit
@@ -218,7 +225,7 @@ pub ruleset told = (
   given-truth_unsuited,
   given_true,
   given_false,
-  given-list_unsuited,
+  given_unsuited,
   given_unfit,
   given_fitting,
 )

@@ -38,7 +38,7 @@ pub struct Progress {
 
 // How many tuples so many rows are: of arity 0 none.
 fn tuples(arity: u32, count: u32) -> u32
-    ensures { result ≡ cond (eqb arity 0) 0 count }
+    ensures { (result ≡ cond (eqb arity 0) 0 count) × (result ≤ count) }
 {
     if arity == 0 { 0 } else { count }
 }

@@ -17,9 +17,9 @@ returns-in_err-count c =
 pub with_rows-value-requires : goal.with_rows-value-requires
 with_rows-value-requires c =
     tuples-few c.args.text.now c.args.at c.args.self.now c.args.rows.now c.requires.1 c.requires.2 c.awaited-awaited.result c.awaited-awaited.ensures c.rows_at.new.rows
-    c.in_ok-count.field-0 c.in_ok-count.ensures c.tuples.result c.tuples.ensures
+    c.in_ok-count.field-0 c.in_ok-count.ensures c.tuples.result c.tuples.ensures.0
 
 pub returns : goal.returns
 returns c =
     rows-line c.args.text.now c.args.at c.args.self.now c.args.rows.now c.requires.1 c.requires.2 c.awaited-awaited.result c.awaited-awaited.ensures c.rows_at.new.rows
-    c.in_ok-count.field-0 c.in_ok-count.ensures c.tuples.result c.tuples.ensures c.with_rows-value.result c.with_rows-value.ensures c.requires.3
+    c.in_ok-count.field-0 c.in_ok-count.ensures c.tuples.result c.tuples.ensures.0 c.with_rows-value.result c.with_rows-value.ensures c.requires.3
