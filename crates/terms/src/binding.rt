@@ -1,6 +1,9 @@
 // The variables bound around a formula, by the places of their names in the theory's text.
-use text::name::{Name, equal, part};
+use text::name::{Name, equal};
 use text::size::LEVEL_COUNT;
+
+// What stands where there is no name. A value and no Option: whether a name is bound is said of every count.
+const NONE: Name = Name { start: 0, size: 0 };
 
 // The first so many names: at most 32, since each takes a level. The room is fixed, as there is no heap.
 #[derive(Clone, Copy)]
@@ -11,7 +14,7 @@ pub struct Scope {
 
 impl Scope {
     ghost use Rattle.std.specs.Prelude.{◌≡◌, ◌<◌};
-    ghost use Rattle.terms.specs.memory.Bindings.{bound_in, Binds};
+    ghost use Rattle.terms.specs.memory.Bindings.{scope_name, bound_in, Binds};
 
     // No variable.
     pub fn new() -> Scope
@@ -19,7 +22,7 @@ impl Scope {
     {
         Scope {
             count: 0,
-            names: [Name { start: 0, size: 0 }; LEVEL_COUNT],
+            names: [NONE; LEVEL_COUNT],
         }
     }
 
@@ -34,13 +37,19 @@ impl Scope {
         more
     }
 
-    // Whether a name is one of them.
-    #[tactic(auto, unfolding(crate::specs::memory::Bindings::bound_in))]
+    // The name at an index.
+    fn name<'a>(&self, text: &'a [u8], i: u32) -> &'a [u8]
+        ensures { result.now ≡ scope_name text.now self.now i }
+    {
+        self.names.get(i as usize).copied().unwrap_or(NONE).of(text)
+    }
+
+    // Whether a name is one of them, looked for from the last on.
     pub fn binds(&self, text: &[u8], name: &[u8]) -> bool
         ensures { result ≡ bound_in text.now self.now name.now }
     {
-        part(&self.names, 0, self.count as usize)
-            .iter()
-            .any(|bound| equal(name, bound.of(text)))
+        (0..self.count)
+            .rev()
+            .any(|i| equal(name, self.name(text, i)))
     }
 }
