@@ -7,7 +7,7 @@ use text::size::{MOST_VARIABLES, NAME_SIZE, VARIABLE_COUNT};
 const ROOM: usize = VARIABLE_COUNT + 1;
 
 // The room is fixed, as there is no heap.
-#[derive(Drop)]
+#[derive(Clone, Copy)]
 pub struct NameTable {
     pub count: u32,
     pub names: [Name; ROOM],
