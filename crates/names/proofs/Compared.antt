@@ -1,9 +1,10 @@
--- Two iterators compared by `eq`, number by number, answer whether the lists that they give are the same.
+-- Two iterators compared by `eq`, number by number, answer whether the lists that they give are the same; lists of other lengths are not.
 -- Assumes nothing.
-use Prim.Native.Nat.{ℕ}
+use Prim.Native.Nat.{ℕ, suc}
 use lib.Dec.{eqb}
-use mathlib.Core.Path.{◌≡◌, sym, ap, ap₂, subst, ◌∙◌}
-use mathlib.Core.Bool.{Bool, true, false, ◌&&◌}
+use lib.ListN.{length}
+use mathlib.Core.Path.{◌≡◌, refl, sym, ap, ap₂, subst, ◌∙◌}
+use mathlib.Core.Bool.{Bool, true, false, ◌&&◌, and-false}
 use mathlib.Core.List.{List, [], ◌∷◌}
 use Rattle.std.specs.Prelude.{Option, Some, None, IfSome, MatchOption}
 use Rattle.std.specs.Iterator.{AlwaysYields, YieldsThen, ComparesItemsByEq}
@@ -50,3 +51,9 @@ pub same_from_eq : {S U T : Type 0} {steps : S → Option ℕ → S → Type 0} 
     → ComparesItemsByEq steps becomes others s other eqb r → YieldsList steps (λ n. n) s xs → ((it : T) → becomes other it → YieldsList others (λ n. n) it ys) → r ≡ same xs ys
 same_from_eq {steps = steps} {others = others} {s = s} {xs = xs} {ys = ys} becomes other r d e f =
     along steps others r d.1 d.2 d.3 d.4 xs ys s d.5 d.0 d.6 e.runs (f d.0 d.7).runs d.8 d.9 d.10 d.11
+
+pub same_length : (xs ys : List ℕ) → (length xs ≡ length ys → ⊥) → same xs ys ≡ false
+same_length [] [] h = absurd (h refl)
+same_length [] (y ∷ ys) h = refl
+same_length (x ∷ xs) [] h = refl
+same_length (x ∷ xs) (y ∷ ys) h = rw (same_length xs ys (λ e. h (ap suc e))) (and-false (eqb x y))

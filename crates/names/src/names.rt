@@ -35,7 +35,7 @@ pub fn climbs(text: &[u8], names: Numbers, top: u32) -> Option<u32>
 pub fn are_listed(text: &[u8], names: Numbers, list: &[u32]) -> bool
     ensures { result ≡ same (numbers_at text.now names.at names.many) list.now }
 {
-    names.of(text).eq(list.iter().copied())
+    names.many == list.len() && names.of(text).eq(list.iter().copied())
 }
 
 // Numbers of a text are stored one after the other, where there is room; the place behind them.
