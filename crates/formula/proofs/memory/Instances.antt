@@ -61,9 +61,9 @@ module _ (flags : List Bool) (i : ℕ) (x : ℕ) (s : List ℕ) where
   unfolding copies
   copies-next h = rw (drop-cons flags i false h, add-one (i + 1), add-one i)
 
-  pub copies-none : length flags ≤ i → copies (drop i flags) x s (i + 1) ≡ []
+  pub copies-none : (v : ℕ) → length flags ≤ i → copies (drop i flags) x s v ≡ []
   unfolding copies
-  copies-none h = rw (drop_all i flags h)
+  copies-none v h = rw (drop_all i flags h)
 
 -- as the library counts
 pub set_count_by : (flags : List Bool) → set_count flags ≡ count_by (λ set. set) flags

@@ -42,7 +42,7 @@ truth_count-none b s n e = rw e
 
 -- `next` is the place after the first formula of the range from i to `end`
 module _ (b : Bool) (work : List ℕ) (i end n rest next : ℕ) (more : n ≡ rest + 1) (past : next ≡ i + skip (slice i end work) 1) (within : next ≤ end) where
-  words_without-next : words_without b n (slice i end work)
+  pub words_without-next : words_without b n (slice i end work)
       ≡ cond (eqb (get_or (take end work) i 0) (truth_word b)) [] (slice i next work) ++ words_without b rest (slice next end work)
   unfolding words_without
   words_without-next = rw (more, add-one, next-within (take end work) i, ← range, past, drop-drop size i (take end work))

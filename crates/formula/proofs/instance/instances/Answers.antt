@@ -1,4 +1,5 @@
 -- `instance::instances` makes a copy for each element whose flag is set. The invariant: the copies for the elements from the next one on are still to be stored.
+use Prim.Native.Nat.{◌+◌}
 use native.Mathlib.Omega.{arith}
 use lib.Seq.{slice}
 use Rattle.words.proofs.memory.Storing.{ahead_turn, ahead_end, ahead_length, ahead_slice}
@@ -34,4 +35,4 @@ loop-i-preserved c =
 
 pub returns : goal.returns
 returns c =
-    ahead_end c.loop-i.invariant (copies-none c.args.flags.now c.loop-i.i c.args.x (slice c.args.at c.args.end c.args.work.now) (omega arith))
+    ahead_end c.loop-i.invariant (copies-none c.args.flags.now c.loop-i.i c.args.x (slice c.args.at c.args.end c.args.work.now) (c.loop-i.i + 1) (omega arith))
