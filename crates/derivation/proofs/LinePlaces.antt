@@ -175,14 +175,14 @@ module _ (text : Bytes) (at : ℕ) where
   kind-behind kind = record { is = same_line ∙ rw kind.is; after = kind.after }
 
   module _ {tail : Reading Line} {mid : ℕ} (behind : Behind (read_line (drop at text)) tail text at mid) where
-    line_found : (told : Option (Read LineRead)) → Told 10 tail (line_in text) text mid told → Told 10 read_line (line_in text) text at told
-    line_found (Some read) f = record { is = behind.is ∙ f.is; after = omega (arith, behind.after, f.after); within = f.within }
-    line_found None f = record { is = behind.is ∙ f.is }
+    line-found : (told : Option (Read LineRead)) → Told 10 tail (line_in text) text mid told → Told 10 read_line (line_in text) text at told
+    line-found (Some read) f = record { is = behind.is ∙ f.is; after = omega (arith, behind.after, f.after); within = f.within }
+    line-found None f = record { is = behind.is ∙ f.is }
 
     pub line-told : (told : Option (Read LineRead)) → ToldLine tail text mid told → ToldLine read_line text at told
-    line-told (Some read) f = (line_found (Some read) f.0, (omega (arith, behind.after, f.1.0), f.1.1))
-    line-told None f = (line_found None f.0, tt)
+    line-told (Some read) f = (line-found (Some read) f.0, (omega (arith, behind.after, f.1.0), f.1.1))
+    line-told None f = (line-found None f.0, tt)
 
   pub kind-told : {tail : Reading Line} {mid : ℕ} → Found read_kind text at tail mid
       → (told : Option (Read LineRead)) → Told 10 tail (line_in text) text mid told → Told 10 read_line (line_in text) text at told
-  kind-told kind = line_found (kind-behind kind)
+  kind-told kind = line-found (kind-behind kind)
