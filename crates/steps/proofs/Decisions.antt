@@ -26,9 +26,10 @@ use Rattle.formula.specs.declared.decide.Fit.{Fit}
 use Rattle.formula.specs.declared.decide.Fit.TheVariants as fit
 use Rattle.steps.specs.memory.Held.{Held, held, whole_in, is_value, value_in, exchanged, misfit, unless_refused, sized_in, made_in}
 use Rattle.steps.specs.memory.Fault.{number}
-use Rattle.steps.specs.memory.Decisions.{Flagged}
+use Rattle.steps.specs.memory.Decisions.{Flagged, Decides, ToldDecision}
 use Rattle.steps.specs.declared.fault.Fault.{Fault}
 use Rattle.steps.specs.declared.fault.Fault.TheVariants as fault
+use Rattle.steps.specs.declared.rewriting.Decision.{Decision}
 
 -- Where no word stands, no rule fits.
 
@@ -90,6 +91,11 @@ module _ (table : Table) (rows : List ℕ) (rule : Rule) (m : Held) (at : ℕ) w
       → made_in table rows rule m at ≡ sized_in m at (Some decided) (take table.domain flags)
   unfolding made_in
   made_fits decided flags is e f = rw (is, e) (sized_flags decided flags f)
+
+  -- what is decided says what the rule comes to
+  pub decision-told : (r : Result Decision Fault) → Decides table rows rule rest r → ToldDecision table rows rule m at r
+  decision-told (Ok d) told = made_fits d.fit d.flags told.0 told.1.0 told.1.1
+  decision-told (Err f) told = made_refused f told
 
 -- What a function answers where it hands on a refusal.
 module _ {A : Type 0} (T : Result A Fault → Type 0) (r : Result A Fault) (f : Fault) (gives : IsErrAnd r (λ e. e ≡ f)) where

@@ -3,7 +3,7 @@ ghost use Rattle.std.specs.Prelude.{◌≡◌, ◌≤◌, ◌<◌, length, drop,
 ghost use Rattle.text.specs.memory.Sizes.{FewElements};
 ghost use Rattle.steps.specs.memory.Held.{rewritten_in, sized_in};
 ghost use Rattle.steps.specs.memory.Memory.{rows_of, held_of, position_of, Kept, ToldStep};
-ghost use Rattle.steps.specs.memory.Decisions.{ToldFlags, ToldDecision};
+ghost use Rattle.steps.specs.memory.Decisions.{ToldFlags, Decides, ToldDecision};
 
 use crate::fault::Fault;
 use crate::front::front_rewritten;
@@ -43,6 +43,7 @@ impl Memory<'_> {
     // What is decided of the formula at a place, before anything is written.
     fn decision_at(&self, table: &Table, rule: Rule, at: usize) -> Result<Decision, Fault>
         requires { FewElements table.now.domain × (at ≤ self.now.live.full) }
+        ensures decides { Decides table.now (rows_of self.now) rule (drop at (held_of self.now).words) result }
         ensures decided { ToldDecision table.now (rows_of self.now) rule (held_of self.now) at result }
         ensures within { IfOk result (λ d. at < self.now.live.full) }
     {
