@@ -37,7 +37,7 @@ use Rattle.terms.specs.declared.name_table.NameTable.{NameTable}
 use Rattle.theory.specs.memory.TheoryReads.{TheoryFound}
 use Rattle.theory.specs.declared.theory_reader.Theory.{Theory}
 use Rattle.steps.specs.memory.Held.{Held, held, stepped_in, end_in}
-use Rattle.steps.specs.memory.Steps.{live_names, rows_in, held_in, Arranged}
+use Rattle.steps.specs.memory.Steps.{live_names, rows_in, held_in, Arranged, Few}
 use Rattle.steps.specs.memory.Memory.{rows_of, held_of as held_by}
 use Rattle.steps.specs.memory.Fault.{number}
 use Rattle.steps.specs.declared.fault.Fault.{Fault}
@@ -57,7 +57,7 @@ use Rattle.grounding.specs.declared.fault.Fault.{Fault as TextFault}
 use Rattle.grounding.specs.declared.fault.Fault.TheVariants as text_fault
 use Rattle.grounding.specs.declared.fault.Refusal.{Refusal as Refused}
 use Rattle.grounding.specs.memory.Faults.{number_of, refusal_of}
-use Rattle.grounding.specs.memory.Grounds.{GroundFound, GroundTold, judged_end, ended_in, Ended, FirstNamed}
+use Rattle.grounding.specs.memory.Grounds.{GroundFound, GroundEither, GroundTold, judged_end, ended_in, EndEither, FirstNamed}
 use Rattle.grounding.specs.declared.grounding.Grounded.{Grounded}
 
 -- The live formulas of a theory that was read.
@@ -199,37 +199,33 @@ module _ (problem theory derivation : Bytes) (table : Table) (rows : List ℕ) (
         pick (late R g n z i) =
             late_refused R (held-ends b.naming problem table rows inside valid b.index (initial T) b.sound derivation R g) n z ∙ rw i
 
-    module _ (g : Grounded) (same : g.table ≡ table) where
-      abbrev end_live : Live
-      end_live = g.memory.live
-
-      abbrev last : List ℕ
-      last = g.memory.work.now
-
-      ground-found : (final : List ℕ) → EndsAt (record { last = held_by g.memory; rules = g.rules; final = final })
-          → end_in table (held_by g.memory) final ≡ 0 → GroundFound (grounded problem theory derivation) problem g
+    module _ (layout : Layout) (live : Live) (last : List ℕ) (room : layout.names + 1024 ≤ length last) (lines : ℕ) (few : Few live) where
+      ground-found : (final : List ℕ) → EndsAt (record { last = held_in layout live last; rules = lines; final = final })
+          → end_in table (held_in layout live last) final ≡ 0 → GroundFound (grounded problem theory derivation) problem table lines live last
       ground-found final e z =
           let N = b.naming in
           let s = e.last in
-          let a : Accepted N problem table rows inside valid b.index s e.is_sound g.rules final =
-          end-accepted N problem table rows inside valid b.index s e.is_sound g.rules final (sym (ap (λ (m : Held). end_in table m final) e.holds) ∙ z) in
-          let n : live_names g.memory.layout end_live last ≡ names_of (live_theory s) = ap (λ (m : Held). m.names) e.holds in
-          let w : take end_live.full last ≡ (held_of N s).words = ap (λ (m : Held). m.words) e.holds in
-          let c : end_live.count ≡ length (names_of (live_theory s)) =
-          sym (region_length last g.memory.layout.names end_live.count (omega (arith, g.memory.few, g.memory.arranged))) ∙ ap length n in
+          let a : Accepted N problem table rows inside valid b.index s e.is_sound lines final =
+          end-accepted N problem table rows inside valid b.index s e.is_sound lines final (sym (ap (λ (m : Held). end_in table m final) e.holds) ∙ z) in
+          let n : live_names layout live last ≡ names_of (live_theory s) = ap (λ (m : Held). m.names) e.holds in
+          let w : take live.full last ≡ (held_of N s).words = ap (λ (m : Held). m.words) e.holds in
+          let c : live.count ≡ length (names_of (live_theory s)) = sym (region_length last layout.names live.count (omega (arith, few))) ∙ ap length n in
           record {
-            ground = record { formulas = formulas_of (live_theory s); rules = g.rules };
+            ground = record { formulas = formulas_of (live_theory s); rules = lines };
             is = rw (is_problem, f.is, e.is) a.is_done;
             rules = refl;
             formulas = c ∙ length-names (live_theory s) ∙ sym (length-formulas (live_theory s));
-            text = sym (lines-held N problem table rows inside valid b.index s e.is_sound a.ground) ∙ rw (same, w, c);
+            text = sym (lines-held N problem table rows inside valid b.index s e.is_sound a.ground) ∙ rw (w, c);
+            few = few;
           }
 
-      pub theory_ground : Ended (ended_in table rows first derivation) g.rules g.memory → GroundFound (grounded problem theory derivation) problem g
-      theory_ground e =
-          let R : Replayed Held = record { last = held_by g.memory; rules = g.rules; final = e.final } in
-          let w = whole table rows (held_of b.naming (initial T)) derivation R (sym from_first ∙ e.is) in
-          ground-found e.final (held-ends b.naming problem table rows inside valid b.index (initial T) b.sound derivation R w.is) w.zero_end
+    pub theory_ground : (layout : Layout) (now : Live) (last : List ℕ) → layout.names + 1024 ≤ length last → (r : Result ℕ Refusal)
+        → EndEither (ended_in table rows first derivation) layout r now last → GroundEither (grounded problem theory derivation) problem table r now last
+    theory_ground layout now last enough (Ok lines) e =
+        let R : Replayed Held = record { last = held_in layout now last; rules = lines; final = e.final } in
+        let w = whole table rows (held_of b.naming (initial T)) derivation R (sym from_first ∙ e.is) in
+        ground-found layout now last enough lines e.few e.final (held-ends b.naming problem table rows inside valid b.index (initial T) b.sound derivation R w.is) w.zero_end
+    theory_ground layout now last enough (Err r) e = end-stopped r e
 
 -- The theory's part of memory, written, and the names behind it.
 module _ (layout : Layout) (old new : List ℕ) (arranged : Arranged layout (length old)) (same : length new ≡ length (take layout.rows old)) where
@@ -275,7 +271,7 @@ handed_on T (Err f) e gives t = subst (λ x. T (Err x)) (sym gives) t
 -- What is told of the ground theory, by its number: the result is found, or the refusal has a number.
 module _ (judged : Judged Ground) (problem : Bytes) where
   pub record Told (r : Result Grounded Refused) : Type 0 where
-    pub accepted : IfOk r (GroundFound judged problem)
+    pub accepted : IfOk r (λ g. GroundFound judged problem g.table g.rules g.memory.live g.memory.work.now)
     pub refuses : IfErr r (λ e. judged ≡ refused (refusal_of e))
     pub positive : IfErr r (λ e. 0 < number_of e.fault)
 

@@ -8,7 +8,7 @@ ghost use Rattle.table.specs.memory.Table.{problem_in};
 ghost use Rattle.steps.specs.memory.Steps.{rows_in, Arranged};
 ghost use Rattle.steps.specs.memory.Memory.{rows_of, held_of, Kept};
 ghost use Rattle.grounding.specs.declared.fault.Fault.TheVariants.{Problem, Theory, Derivation};
-ghost use Rattle.grounding.specs.memory.Grounds.{GroundTold, ended_in, EndTold, FirstNamed, HeldIn};
+ghost use Rattle.grounding.specs.memory.Grounds.{GroundTold, ended_in, EndTold, FirstNamed, HeldIn, SharedIn};
 
 use crate::ending::judge;
 use crate::fault::{Fault, Refusal};
@@ -18,17 +18,17 @@ use names::names::put_first;
 use problem::problem_line;
 use problem::problem_line::read_problem;
 use steps::live::{Layout, Live};
-use steps::memory::Memory;
+use steps::memory::{Memory, SharedMemory};
 use table::table::Table;
 use terms::name_table::NameTable;
 use theory::theory_reader;
 use theory::theory_reader::{Theory, read_theory};
 
 // The ground theory: the count of rule lines, the live formulas in memory, and the table of their predicates.
-#[derive(Drop)]
+#[derive(Clone, Copy)]
 pub struct Grounded<'a> {
     pub rules: u32,
-    pub memory: Memory<'a>,
+    pub memory: SharedMemory<'a>,
     pub table: Table,
 }
 
@@ -122,13 +122,15 @@ fn ground_read<'a>(
 ) -> Result<Grounded<'a>, Refusal>
     requires { Arranged layout (length work.old) × ShortText theory.now × ShortText derivation.now × FewElements table.domain × FewPredicates table.count }
     ensures told { problem_of problem.now ≡ done (problem_in problem.now table (rows_in layout work.old)) → table.inputs ≤ table.count → GroundTold (grounded problem.now theory.now derivation.now) problem.now result }
-    ensures kept { IfOk result (λ g. HeldIn layout work.entry g.memory) }
+    ensures kept { IfOk result (λ g. SharedIn layout work.entry g.memory) }
 {
     let mut names = NameTable::new();
     let rows = layout.rows;
     let read = read_theory(theory, problem, &table, &mut names, &mut work[..rows])?;
     let mut memory = named(work, layout, read);
     let rules = replay_end(derivation, &table, &mut memory)?;
+    let Memory { work, layout, live } = memory;
+    let memory = SharedMemory { work, layout, live };
     Ok(Grounded {
         rules,
         memory,
@@ -145,7 +147,7 @@ pub fn ground_theory<'a>(
 ) -> Result<Grounded<'a>, Refusal>
     requires { Arranged layout (length work.old) × ShortText problem.now × ShortText theory.now × ShortText derivation.now }
     ensures told { GroundTold (grounded problem.now theory.now derivation.now) problem.now result }
-    ensures kept { IfOk result (λ g. HeldIn layout work.entry g.memory) }
+    ensures kept { IfOk result (λ g. SharedIn layout work.entry g.memory) }
 {
     let rows = layout.rows;
     let names = layout.names;

@@ -115,7 +115,8 @@ module _ (compare : Bool) (problem theory derivation claim : Bytes) (output : Li
       → Told (judged_of compare problem theory derivation claim output) output (Err (Text r)) output
   judged-refused r e = told-refusal _ (rw e) refl refl
 
-module _ (problem theory derivation : Bytes) (claim : Option (Bor Bytes)) (output : List ℕ) (g : Grounded) (f : GroundFound (grounded problem theory derivation) problem g) where
+module _ (problem theory derivation : Bytes) (claim : Option (Bor Bytes)) (output : List ℕ) (g : Grounded)
+    (f : GroundFound (grounded problem theory derivation) problem g.table g.rules g.memory.live g.memory.work.now) where
   pub judged_concluded : (r : Result Counts Refusal) (new words : List ℕ) → words ≡ take g.memory.live.full g.memory.work.now
       → Concluded (is_some claim) (claimed claim) (clause_lines problem g.table 32 g.memory.live.count words) (record { rules = g.rules; formulas = g.memory.live.count }) output r new
       → Told (judged_of (is_some claim) problem theory derivation (claimed claim) output) output r new

@@ -3,7 +3,7 @@ use Rattle.std.specs.Prelude.{ℕ, zero, suc, ◌+◌, ◌≡◌, List, Result, 
 use Rattle.std.specs.Borrow.{MutBor}
 use Rattle.grammar.specs.Bytes.{Bytes}
 use Rattle.grammar.specs.Outcome.{done, refused, ◌>>=◌}
-use Rattle.grammar.specs.Lines.{Judged, refusal}
+use Rattle.grammar.specs.Lines.{Refusal as Refused, Judged, refusal}
 use Rattle.logic.specs.Meaning.{count_from}
 use Rattle.demands.specs.Replay.{Replayed, derivation_from}
 use Rattle.demands.specs.Ground.{Ground, ground_text}
@@ -12,28 +12,36 @@ use Rattle.printing.specs.memory.ClauseText.{clause_lines}
 use Rattle.theory.specs.declared.theory_reader.Theory.{Theory}
 use Rattle.steps.specs.memory.Fault.{number}
 use Rattle.steps.specs.memory.Held.{Held, held, stepped_in, end_in}
-use Rattle.steps.specs.memory.Steps.{rows_in}
+use Rattle.steps.specs.memory.Steps.{rows_in, held_in, Few}
 use Rattle.steps.specs.memory.Memory.{rows_of, held_of}
 use Rattle.steps.specs.declared.fault.Fault.{Fault}
+use Rattle.steps.specs.declared.live.Live.{Live}
 use Rattle.steps.specs.declared.live.Layout.{Layout}
 use Rattle.steps.specs.declared.memory.Memory.{Memory}
+use Rattle.steps.specs.declared.memory.SharedMemory.{SharedMemory}
 use Rattle.grounding.specs.memory.Faults.{refusal_of}
 use Rattle.grounding.specs.memory.Lines.{JudgedIn}
 use Rattle.grounding.specs.declared.fault.Refusal.{Refusal}
 use Rattle.grounding.specs.declared.grounding.Grounded.{Grounded}
 use Rattle.grounding.specs.declared.replaying.Refusal.{Refusal as LineRefusal}
 
--- the ground theory is in memory
-pub record GroundFound (judged : Judged Ground) (problem : Bytes) (g : Grounded) : Type 0 where
+-- the ground theory is in memory, after so many rule lines
+pub record GroundFound (judged : Judged Ground) (problem : Bytes) (table : Table) (lines : ℕ) (live : Live) (work : List ℕ) : Type 0 where
   pub ground : Ground
   pub is : judged ≡ done ground
-  pub rules : g.rules ≡ ground.rules
-  pub formulas : g.memory.live.count ≡ length ground.formulas
-  pub text : ground_text ground ≡ clause_lines problem g.table 32 g.memory.live.count (take g.memory.live.full g.memory.work.now)
+  pub rules : lines ≡ ground.rules
+  pub formulas : live.count ≡ length ground.formulas
+  pub text : ground_text ground ≡ clause_lines problem table 32 live.count (take live.full work)
+  pub few : Few live
+
+-- by the path that was taken: the ground theory, or a refusal
+abbrev pub GroundEither : Judged Ground → Bytes → Table → Result ℕ Refused → Live → List ℕ → Type 0
+GroundEither judged problem table (Ok lines) live work = GroundFound judged problem table lines live work
+GroundEither judged problem table (Err r) live work = judged ≡ refused r
 
 -- the ground theory, or the refusal
 abbrev pub GroundTold : Judged Ground → Bytes → Result Grounded Refusal → Type 0
-GroundTold judged problem (Ok g) = GroundFound judged problem g
+GroundTold judged problem (Ok g) = GroundFound judged problem g.table g.rules g.memory.live g.memory.work.now
 GroundTold judged problem (Err r) = judged ≡ refused (refusal_of r)
 
 -- A derivation with its end, on what memory holds: 10 to 17.
@@ -51,12 +59,18 @@ EndJudged n (Ok _) = n ≡ 0
 EndJudged n (Err fault) = n ≡ number fault
 
 -- a derivation comes to the live formulas in memory
-pub record Ended (outcome : JudgedIn) (rules : ℕ) (memory : Memory) : Type 0 where
+pub record Ended (outcome : JudgedIn) (rules : ℕ) (layout : Layout) (live : Live) (work : List ℕ) : Type 0 where
   pub final : List ℕ
-  pub is : outcome ≡ done (record { last = held_of memory; rules = rules; final = final })
+  pub is : outcome ≡ done (record { last = held_in layout live work; rules = rules; final = final })
+  pub few : Few live
+
+-- or it is refused
+abbrev pub EndEither : JudgedIn → Layout → Result ℕ Refused → Live → List ℕ → Type 0
+EndEither outcome layout (Ok rules) live work = Ended outcome rules layout live work
+EndEither outcome layout (Err r) live work = outcome ≡ refused r
 
 abbrev pub EndTold : JudgedIn → Result ℕ LineRefusal → Memory → Type 0
-EndTold outcome (Ok rules) memory = Ended outcome rules memory
+EndTold outcome (Ok rules) memory = Ended outcome rules memory.layout memory.live memory.work.now
 EndTold outcome (Err r) memory = outcome ≡ refused (refusal (number r.fault) 3 r.line)
 
 -- the live formulas of a theory that was read: its words at the front, and the names 1, 2, 3 and so on
@@ -69,3 +83,8 @@ pub record HeldIn (layout : Layout) (work : MutBor (List ℕ)) (memory : Memory)
   pub arranged : memory.layout ≡ layout
   pub long : length memory.work.now ≡ length work.now
   pub lent : memory.work.ghost_name ≡ work.ghost_name
+
+-- the same of what is lent on to be read
+pub record SharedIn (layout : Layout) (work : MutBor (List ℕ)) (memory : SharedMemory) : Type 0 where
+  pub arranged : memory.layout ≡ layout
+  pub long : length memory.work.now ≡ length work.now

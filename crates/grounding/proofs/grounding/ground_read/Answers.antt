@@ -1,11 +1,13 @@
 -- `grounding::ground_read`: the theory's words and names begin the replay, whose end is the ground theory.
 use borrow.Author.Rules.{rules}
-use mathlib.Core.Path.{◌≡◌, refl, sym, ◌∙◌}
+use native.Mathlib.Omega.{arith}
+use mathlib.Core.Path.{◌≡◌, sym, ◌∙◌}
 use mathlib.Core.List.{◌++◌}
 use lib.ListN.{length, take, drop}
 use lib.Seq.{length_front}
 use Rattle.logic.specs.Meaning.{count_from}
 use mathlib.Core.Bool.{false}
+use Rattle.std.specs.Prelude.{Ok}
 use Rattle.demands.specs.Answer.{grounded}
 use Rattle.steps.specs.memory.Held.{held}
 use Rattle.steps.specs.memory.Steps.{rows_in}
@@ -51,7 +53,8 @@ returns-in_err-rules-clause-told c =
 pub returns-clause-told : goal.returns-clause-told
 returns-clause-told c =
     let e = c.in_ok-rules.ensures.told in
+    let m = c.replay_end.new.memory in
     λ is_problem inside.
     theory_ground c.args.problem.now c.args.theory.now c.args.derivation.now c.args.table _ is_problem inside (c.in_ok-read.ensures _)
-    (record { rules = c.in_ok-rules.rules; memory = c.replay_end.new.memory; table = c.args.table }) refl
-    (record { final = e.final; is = sym (first (goal.at.returns-clause-told c).After-named-memory) ∙ e.is })
+    m.layout m.live m.work.now (omega (arith, m.arranged)) (Ok c.in_ok-rules.rules)
+    (record { final = e.final; is = sym (first (goal.at.returns-clause-told c).After-named-memory) ∙ e.is; few = e.few })

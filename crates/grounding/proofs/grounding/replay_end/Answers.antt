@@ -12,7 +12,8 @@ returns-in_err-replayed-clause-told c =
     c.from_residual.result c.in_err-replayed.field-0.0 c.from_residual.ensures.1 (ended-refused _ _ _ _ _ c.in_err-replayed.ensures.told)
 
 pub returns-in-Ok-clause-told : goal.returns-in-Ok-clause-told
-returns-in-Ok-clause-told c = record { final = _; is = ended_zero _ _ _ _ _ c.in_ok-replayed.ensures.told.is _ refl c.in-Ok.ensures }
+returns-in-Ok-clause-told c =
+    record { final = _; is = ended_zero _ _ _ _ _ c.in_ok-replayed.ensures.told.is _ refl c.in-Ok.ensures; few = c.replay_text.new.memory.few }
 
 pub returns-in-Err-clause-told : goal.returns-in-Err-clause-told
 returns-in-Err-clause-told c = ended-fault _ _ _ _ _ c.in_ok-replayed.ensures.told.is _ c.in-Err.ensures _ c.in_ok-replayed.ensures.told.footed
