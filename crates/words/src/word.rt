@@ -63,18 +63,6 @@ impl From<u32> for Kind {
 }
 
 impl Kind {
-    // How many formulas or terms follow a word of the kind as its parts.
-    fn part_count(self) -> u32
-        ensures { result ≡ part_count self }
-    {
-        match self {
-            Kind::Atom { terms, .. } => terms,
-            Kind::Equality | Kind::Quantifier { .. } => 2,
-            Kind::Connective { parts, .. } => parts,
-            _ => 0,
-        }
-    }
-
     // How many formulas a path can go on to from a formula of the kind.
     pub fn subformula_count(self) -> u32
         ensures { result ≡ subformula_count self }
@@ -87,11 +75,29 @@ impl Kind {
     }
 }
 
-// How many follow a word.
+// How many formulas or terms follow a word as its parts. By tests of its tag and not by its kind: each word that is passed is asked, and to branch to
+// one of fourteen kinds takes a quarter more time where formulas are deep.
+#[tactic(auto, unfolding(crate::specs::memory::Kinds::kind_by))]
 pub fn parts_of(word: u32) -> usize
     ensures { (result ≡ part_count (kind_of word)) × (result < 4294967296) }
 {
-    Kind::from(word).part_count() as usize
+    let payload = word / 16;
+    let parts = if Tag::Negation.is_of(word)
+        || Tag::Conjunction.is_of(word)
+        || Tag::Disjunction.is_of(word)
+        || Tag::Implies.is_of(word)
+        || Tag::ImpliedBy.is_of(word)
+        || Tag::Equivalent.is_of(word)
+    {
+        payload
+    } else if Tag::Equality.is_of(word) || Tag::Every.is_of(word) || Tag::Any.is_of(word) {
+        2
+    } else if Tag::Atom.is_of(word) {
+        payload / 256
+    } else {
+        0
+    };
+    parts as usize
 }
 
 // The word at a place; 0 past the end, since contracts over words are total. As one generic function with the `peek` of bytes it would take at
