@@ -58,7 +58,7 @@ use Rattle.grounding.specs.declared.fault.Fault.TheVariants as text_fault
 use Rattle.grounding.specs.declared.fault.Refusal.{Refusal as Refused}
 use Rattle.grounding.specs.memory.Faults.{number_of, refusal_of}
 use Rattle.grounding.specs.memory.Grounds.{GroundFound, GroundEither, GroundTold, judged_end, ended_in, EndEither, FirstNamed}
-use Rattle.grounding.specs.declared.grounding.Grounded.{Grounded}
+use Rattle.grounding.specs.declared.grounding.GroundMemory.{GroundMemory}
 
 -- The live formulas of a theory that was read.
 module _ (layout : Layout) (count full : ℕ) (old : List ℕ) (arranged : Arranged layout (length old)) (few : count ≤ 1024) (small : full ≤ 4096) where
@@ -270,12 +270,12 @@ handed_on T (Err f) e gives t = subst (λ x. T (Err x)) (sym gives) t
 
 -- What is told of the ground theory, by its number: the result is found, or the refusal has a number.
 module _ (judged : Judged Ground) (problem : Bytes) where
-  pub record Told (r : Result Grounded Refused) : Type 0 where
-    pub accepted : IfOk r (λ g. GroundFound judged problem g.table g.rules g.memory.live g.memory.work.now)
+  pub record Told (r : Result GroundMemory Refused) : Type 0 where
+    pub accepted : IfOk r (λ g. GroundFound judged problem g.grounded.table g.grounded.rules g.memory.live g.memory.work.now)
     pub refuses : IfErr r (λ e. judged ≡ refused (refusal_of e))
     pub positive : IfErr r (λ e. 0 < number_of e.fault)
 
-  pub ground-told : (r : Result Grounded Refused) → GroundTold judged problem r → Told r
+  pub ground-told : (r : Result GroundMemory Refused) → GroundTold judged problem r → Told r
   ground-told (Ok g) t = record { accepted = t; refuses = tt; positive = tt }
   ground-told (Err e) t = record { accepted = tt; refuses = t; positive = numbered e.fault }
     where

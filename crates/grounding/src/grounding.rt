@@ -8,7 +8,7 @@ ghost use Rattle.table.specs.memory.Table.{problem_in};
 ghost use Rattle.steps.specs.memory.Steps.{rows_in, Arranged};
 ghost use Rattle.steps.specs.memory.Memory.{rows_of, held_of, Kept};
 ghost use Rattle.grounding.specs.declared.fault.Fault.TheVariants.{Problem, Theory, Derivation};
-ghost use Rattle.grounding.specs.memory.Grounds.{GroundTold, ended_in, EndTold, FirstNamed, HeldIn, SharedIn};
+ghost use Rattle.grounding.specs.memory.Grounds.{GroundTold, ended_in, EndTold, FirstNamed, HeldIn};
 
 use crate::ending::judge;
 use crate::fault::{Fault, Refusal};
@@ -18,21 +18,27 @@ use names::names::put_first;
 use problem::problem_line;
 use problem::problem_line::read_problem;
 use steps::live::{Layout, Live};
-use steps::memory::{Memory, SharedMemory};
+use steps::memory::Memory;
 use table::table::Table;
 use terms::name_table::NameTable;
 use theory::theory_reader;
 use theory::theory_reader::{Theory, read_theory};
 
-// The ground theory: the count of rule lines, the live formulas in memory, and the table of their predicates.
+// What is known of a ground theory: the count of rule lines, and the table of its predicates.
 #[derive(Clone, Copy)]
-pub struct Grounded<'a> {
+pub struct Grounded {
     pub rules: u32,
-    pub memory: SharedMemory<'a>,
     pub table: Table,
 }
 
-impl Grounded<'_> {
+// The same with the memory that has its formulas, lent on as it was lent.
+#[derive(Drop)]
+pub struct GroundMemory<'a> {
+    pub grounded: Grounded,
+    pub memory: Memory<'a>,
+}
+
+impl GroundMemory<'_> {
     // The words of the live formulas.
     pub fn words(&self) -> &[u32]
         ensures { result.now ≡ take self.now.memory.live.full self.now.memory.work.now }
@@ -119,22 +125,19 @@ fn ground_read<'a>(
     work: &'a mut [u32],
     layout: Layout,
     table: Table,
-) -> Result<Grounded<'a>, Refusal>
+) -> Result<GroundMemory<'a>, Refusal>
     requires { Arranged layout (length work.old) × ShortText theory.now × ShortText derivation.now × FewElements table.domain × FewPredicates table.count }
     ensures told { problem_of problem.now ≡ done (problem_in problem.now table (rows_in layout work.old)) → table.inputs ≤ table.count → GroundTold (grounded problem.now theory.now derivation.now) problem.now result }
-    ensures kept { IfOk result (λ g. SharedIn layout work.entry g.memory) }
+    ensures kept { IfOk result (λ g. HeldIn layout work.entry g.memory) }
 {
     let mut names = NameTable::new();
     let rows = layout.rows;
     let read = read_theory(theory, problem, &table, &mut names, &mut work[..rows])?;
     let mut memory = named(work, layout, read);
     let rules = replay_end(derivation, &table, &mut memory)?;
-    let Memory { work, layout, live } = memory;
-    let memory = SharedMemory { work, layout, live };
-    Ok(Grounded {
-        rules,
+    Ok(GroundMemory {
+        grounded: Grounded { rules, table },
         memory,
-        table,
     })
 }
 
@@ -144,10 +147,10 @@ pub fn ground_theory<'a>(
     derivation: &[u8],
     work: &'a mut [u32],
     layout: Layout,
-) -> Result<Grounded<'a>, Refusal>
+) -> Result<GroundMemory<'a>, Refusal>
     requires { Arranged layout (length work.old) × ShortText problem.now × ShortText theory.now × ShortText derivation.now }
     ensures told { GroundTold (grounded problem.now theory.now derivation.now) problem.now result }
-    ensures kept { IfOk result (λ g. SharedIn layout work.entry g.memory) }
+    ensures kept { IfOk result (λ g. HeldIn layout work.entry g.memory) }
 {
     let rows = layout.rows;
     let names = layout.names;

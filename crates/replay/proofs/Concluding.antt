@@ -28,7 +28,7 @@ use Rattle.printing.specs.memory.ClauseText.{clause_lines}
 use Rattle.grounding.specs.memory.Faults.{refusal_of}
 use Rattle.grounding.specs.memory.Grounds.{GroundFound}
 use Rattle.grounding.specs.declared.fault.Refusal.{Refusal as GroundRefusal}
-use Rattle.grounding.specs.declared.grounding.Grounded.{Grounded}
+use Rattle.grounding.specs.declared.grounding.GroundMemory.{GroundMemory}
 use Rattle.replay.specs.memory.Answers.{claimed, agreed_by, answer_by, Told, Concluded}
 use Rattle.replay.specs.declared.job.Counts.{Counts}
 use Rattle.replay.specs.declared.job.Refusal.{Refusal}
@@ -115,10 +115,10 @@ module _ (compare : Bool) (problem theory derivation claim : Bytes) (output : Li
       → Told (judged_of compare problem theory derivation claim output) output (Err (Text r)) output
   judged-refused r e = told-refusal _ (rw e) refl refl
 
-module _ (problem theory derivation : Bytes) (claim : Option (Bor Bytes)) (output : List ℕ) (g : Grounded)
-    (f : GroundFound (grounded problem theory derivation) problem g.table g.rules g.memory.live g.memory.work.now) where
+module _ (problem theory derivation : Bytes) (claim : Option (Bor Bytes)) (output : List ℕ) (g : GroundMemory)
+    (f : GroundFound (grounded problem theory derivation) problem g.grounded.table g.grounded.rules g.memory.live g.memory.work.now) where
   pub judged_concluded : (r : Result Counts Refusal) (new words : List ℕ) → words ≡ take g.memory.live.full g.memory.work.now
-      → Concluded (is_some claim) (claimed claim) (clause_lines problem g.table 32 g.memory.live.count words) (record { rules = g.rules; formulas = g.memory.live.count }) output r new
+      → Concluded (is_some claim) (claimed claim) (clause_lines problem g.grounded.table 32 g.memory.live.count words) (record { rules = g.grounded.rules; formulas = g.memory.live.count }) output r new
       → Told (judged_of (is_some claim) problem theory derivation (claimed claim) output) output r new
   judged_concluded r new words e c =
       told_same (rw f.is) (c.told f.ground (rw e f.text) (sym f.rules) (sym f.formulas) (ground-short problem theory derivation f.ground f.is))

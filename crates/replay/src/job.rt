@@ -161,13 +161,13 @@ impl Texts<'_> {
     {
         let ground = ground_theory(self.problem, self.theory, self.derivation, work, layout())?;
         let counts = Counts {
-            rules: ground.rules,
+            rules: ground.grounded.rules,
             formulas: ground.memory.live.count as u32,
         };
         let clauses = Clauses {
             work: ground.words(),
             problem: self.problem,
-            table: &ground.table,
+            table: &ground.grounded.table,
         };
         concluded(&clauses, counts, self.claim, output)
     }

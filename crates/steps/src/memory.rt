@@ -13,13 +13,3 @@ pub struct Memory<'a> {
     ghost arranged: { Arranged layout (length work.now) },
     ghost few: { Few live },
 }
-
-// The same, lent to be read: it is written no more, so it may be copied.
-#[derive(Clone, Copy)]
-pub struct SharedMemory<'a> {
-    pub work: &'a [u32],
-    pub layout: Layout,
-    pub live: Live,
-    ghost arranged: { Arranged layout (length work.now) },
-    ghost few: { Few live },
-}

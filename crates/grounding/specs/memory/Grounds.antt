@@ -18,11 +18,10 @@ use Rattle.steps.specs.declared.fault.Fault.{Fault}
 use Rattle.steps.specs.declared.live.Live.{Live}
 use Rattle.steps.specs.declared.live.Layout.{Layout}
 use Rattle.steps.specs.declared.memory.Memory.{Memory}
-use Rattle.steps.specs.declared.memory.SharedMemory.{SharedMemory}
 use Rattle.grounding.specs.memory.Faults.{refusal_of}
 use Rattle.grounding.specs.memory.Lines.{JudgedIn}
 use Rattle.grounding.specs.declared.fault.Refusal.{Refusal}
-use Rattle.grounding.specs.declared.grounding.Grounded.{Grounded}
+use Rattle.grounding.specs.declared.grounding.GroundMemory.{GroundMemory}
 use Rattle.grounding.specs.declared.replaying.Refusal.{Refusal as LineRefusal}
 
 -- the ground theory is in memory, after so many rule lines
@@ -40,8 +39,8 @@ GroundEither judged problem table (Ok lines) live work = GroundFound judged prob
 GroundEither judged problem table (Err r) live work = judged ≡ refused r
 
 -- the ground theory, or the refusal
-abbrev pub GroundTold : Judged Ground → Bytes → Result Grounded Refusal → Type 0
-GroundTold judged problem (Ok g) = GroundFound judged problem g.table g.rules g.memory.live g.memory.work.now
+abbrev pub GroundTold : Judged Ground → Bytes → Result GroundMemory Refusal → Type 0
+GroundTold judged problem (Ok g) = GroundFound judged problem g.grounded.table g.grounded.rules g.memory.live g.memory.work.now
 GroundTold judged problem (Err r) = judged ≡ refused (refusal_of r)
 
 -- A derivation with its end, on what memory holds: 10 to 17.
@@ -83,8 +82,3 @@ pub record HeldIn (layout : Layout) (work : MutBor (List ℕ)) (memory : Memory)
   pub arranged : memory.layout ≡ layout
   pub long : length memory.work.now ≡ length work.now
   pub lent : memory.work.ghost_name ≡ work.ghost_name
-
--- the same of what is lent on to be read
-pub record SharedIn (layout : Layout) (work : MutBor (List ℕ)) (memory : SharedMemory) : Type 0 where
-  pub arranged : memory.layout ≡ layout
-  pub long : length memory.work.now ≡ length work.now
