@@ -1,11 +1,11 @@
 // The texts of a file of data/: each stands behind a line `# name`, or `#- name` where its last LF is left out.
-ghost use Rattle.std.specs.Prelude.{◌≡◌, ◌≤◌, ◌<◌, length};
+ghost use Rattle.std.specs.Prelude.{◌≡◌, ℕ, ◌≤◌, ◌<◌, length, drop, MatchOption};
 ghost use Rattle.std.specs.Iterator.{at_most};
 
 use text::line::line_end;
 
-// A text of a file: its name, its own bytes, and the file from its first byte on, of which `size` bytes are its lines.
-// A text as it stands in the file, and the file from there on with the text's size: an escape at the text's end may read on behind it.
+// A text of a file: its name, its own bytes, and the file from its first byte on, of which `size` bytes are its lines: an escape at the
+// text's end may read on behind it.
 #[derive(Clone, Copy)]
 pub struct Section<'a> {
     pub name: &'a [u8],
@@ -30,7 +30,7 @@ pub fn after_line(file: &[u8], at: usize) -> usize
 
 // What is left from the next heading on.
 fn from_heading(lines: &[u8]) -> &[u8]
-    ensures { length result.now ≤ length lines.now }
+    ensures { (n : ℕ) × (n ≤ length lines.now) × (result.now ≡ drop n lines.now) }
 {
     let mut rest = lines;
     // A `while`: each turn takes a whole line off, and what is left is the answer.
@@ -51,6 +51,10 @@ impl<'a> Sections<'a> {
 
 impl<'a> Iterator for Sections<'a> {
     type Item = Section<'a>;
+
+    // No text comes exactly where nothing is left, and then nothing is left after it; a text leaves what stands from a later place on.
+    ghost next_gives = { λ s r t. MatchOption r ((length s.rest.now ≡ 0) × (t ≡ s))
+        (λ _. (n : ℕ) × (0 < n) × (n ≤ length s.rest.now) × (t.rest.now ≡ drop n s.rest.now)) };
 
     ghost remaining = { λ s. at_most (length s.rest.now) };
 
