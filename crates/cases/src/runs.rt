@@ -52,16 +52,26 @@ struct Setting {
 }
 
 impl Setting {
-    // How much is lent, where a file does not say; no texts.
+    // Room for the texts, made once for all files, as it takes long to clear; nothing is lent yet.
     fn new() -> Setting {
         Setting {
             problem: Text::new(),
             theory: Text::new(),
             derivation: Text::new(),
             claim: Text::new(),
-            output: 2000,
-            work: WORK,
+            output: 0,
+            work: 0,
         }
+    }
+
+    // How much is lent, where a file does not say; no texts.
+    fn begin(&mut self) {
+        self.problem.size = 0;
+        self.theory.size = 0;
+        self.derivation.size = 0;
+        self.claim.size = 0;
+        self.output = 2000;
+        self.work = WORK;
     }
 }
 
@@ -180,11 +190,17 @@ fn one(
     Ok(())
 }
 
-fn file(rt: &(impl Files + Print), path: &[u8], output: &mut [u8], work: &mut [u32]) -> Result<()> {
+fn file(
+    rt: &(impl Files + Print),
+    path: &[u8],
+    setting: &mut Setting,
+    output: &mut [u8],
+    work: &mut [u32],
+) -> Result<()> {
     let mut room = io::large_buffer();
-    let mut setting = Setting::new();
+    setting.begin();
     for section in Sections::of(casefile::load(rt, path, &mut room)) {
-        one(rt, section, &mut setting, output, work)?;
+        one(rt, section, setting, output, work)?;
     }
     Ok(())
 }
@@ -192,12 +208,13 @@ fn file(rt: &(impl Files + Print), path: &[u8], output: &mut [u8], work: &mut [u
 // Each file that a list names, one on a line.
 pub fn all(rt: &(impl Files + Print)) -> Result<()> {
     let mut room = io::buffer();
+    let mut setting = Setting::new();
     let mut output = io::large_buffer();
     let mut work = [0; WORK];
     let list = casefile::load(rt, b"runs/list", &mut room);
     for line in list.split_inclusive(|b| *b == b'\n') {
         let path = line.strip_suffix(b"\n").unwrap_or(line);
-        file(rt, path, &mut output, &mut work)?;
+        file(rt, path, &mut setting, &mut output, &mut work)?;
     }
     Ok(())
 }
