@@ -2,9 +2,41 @@
 // the byte 13, `\{3*ab}` is `ababab`, `\{2..5}` is `2,3,4,5`; `\` before any other byte is that byte.
 ghost use Rattle.std.specs.Prelude.{◌≤◌, ◌<◌, length, IfOk};
 
-use std::io::{Cursor, Result, Write};
+use std::io::{ErrorKind, Result, Write};
 use text::byte::peek;
 use text::number::digits_at;
+
+// A room that is written from its beginning on. By hand: the library's `Cursor` has a loop and a copy for each byte.
+#[derive(Drop)]
+struct Written<'a> {
+    room: &'a mut [u8],
+    size: usize,
+    ghost within: { size ≤ length room.now },
+}
+
+impl Write for Written<'_> {
+    fn write(&mut self, buf: &[u8]) -> Result<usize> {
+        let many = buf.len().min(self.room.len() - self.size);
+        self.room[self.size..self.size + many].copy_from_slice(&buf[..many]);
+        self.size += many;
+        Ok(many)
+    }
+
+    fn flush(&mut self) -> Result<()> {
+        Ok(())
+    }
+
+    // The test stands before the copy, so that a single byte is a store.
+    fn write_all(&mut self, buf: &[u8]) -> Result<()> {
+        if self.room.len() - self.size < buf.len() {
+            let _ = self.write(buf)?;
+            return Err(ErrorKind::WriteZero.into());
+        }
+        self.room[self.size..self.size + buf.len()].copy_from_slice(buf);
+        self.size += buf.len();
+        Ok(())
+    }
+}
 
 // What is left behind the first bytes.
 fn behind(rest: &[u8], many: usize) -> &[u8]
@@ -13,18 +45,39 @@ fn behind(rest: &[u8], many: usize) -> &[u8]
     rest.get(many..).unwrap_or(&[])
 }
 
-// The numbers from the first to the last, with commas between them.
-fn put_numbers(first: u32, last: u32, out: &mut impl Write) -> Result<()> {
-    write!(out, "{first}")?;
-    for n in first..last {
-        write!(out, ",{}", n + 1)?;
+// A number, from its first digit on. By hand: the library's `write!` takes twice as long, and a text may have a million numbers.
+fn put_number(n: u32, out: &mut impl Write) -> Result<()> {
+    let mut unit: u32 = 1000000000;
+    // A `while`: the unit is a tenth at each turn.
+    while unit > 0 {
+        if n >= unit || unit == 1 {
+            out.write_all(&[b'0' + (n / unit % 10) as u8])?;
+        }
+        unit /= 10;
     }
     Ok(())
 }
 
+// The numbers from the first to the last, with commas between them; the first alone, where the last is not behind it.
+fn put_numbers(first: u32, last: u32, out: &mut impl Write) -> Result<()> {
+    for n in first..=last.max(first) {
+        if n > first {
+            out.write_all(b",")?;
+        }
+        put_number(n, out)?;
+    }
+    Ok(())
+}
+
+// A part so many times, byte by byte, as most are short; an empty one takes no turn.
 fn put_parts(part: &[u8], count: u32, out: &mut impl Write) -> Result<()> {
+    if part.is_empty() {
+        return Ok(());
+    }
     for _ in 0..count {
-        out.write_all(part)?;
+        for b in part {
+            out.write_all(&[*b])?;
+        }
     }
     Ok(())
 }
@@ -103,7 +156,7 @@ pub fn text(source: &[u8], size: usize, room: &mut [u8]) -> usize
     ensures { result ≤ length room.new }
 {
     let whole = room.len();
-    let mut out = Cursor::new(room);
+    let mut out = Written { room, size: 0 };
     let _ = put(source, size, &mut out);
-    whole.min(out.position() as usize)
+    whole.min(out.size)
 }
