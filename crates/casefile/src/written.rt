@@ -45,7 +45,7 @@ fn behind(rest: &[u8], many: usize) -> &[u8]
     rest.get(many..).unwrap_or(&[])
 }
 
-// A number, from its first digit on. By hand: the library's `write!` takes twice as long, and a text may have a million numbers.
+// A number, from its first digit on. By hand: the library's `write!` takes twice as long, and a text may have some thirty thousand numbers.
 fn put_number(n: u32, out: &mut impl Write) -> Result<()> {
     let mut unit: u32 = 1000000000;
     // A `while`: the unit is a tenth at each turn.

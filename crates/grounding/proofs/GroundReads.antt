@@ -102,7 +102,7 @@ module _ (table : Table) (rows : List ℕ) (m : Held) (s : Bytes) where
     unfolding ended_in
     ended_zero n f z = rw (e, ← f, z)
 
-    ended-number : (n : ℕ) → n ≡ end_in table R.last R.final → (n ≡ 0 → ⊥) → ended_in table rows m s ≡ refused (refusal n 3 (R.rules + 3))
+    pub ended-number : (n : ℕ) → n ≡ end_in table R.last R.final → (n ≡ 0 → ⊥) → ended_in table rows m s ≡ refused (refusal n 3 (R.rules + 3))
     unfolding ended_in
     ended-number n f some = rw (e, ← f) (pick n some)
       where

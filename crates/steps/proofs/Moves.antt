@@ -76,7 +76,7 @@ module _ (layout : Layout) (live : Live) (old : List ℕ) (arranged : Arranged l
   room : layout.rows ≤ length old
   room = omega (arith, arranged)
 
-  mid_long : length mid ≡ length old
+  pub mid_long : length mid ≡ length old
   mid_long = length_front old new layout.rows same
 
   mid_names : drop layout.names mid ≡ drop layout.names old

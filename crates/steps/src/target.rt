@@ -17,7 +17,7 @@ pub struct Target {
     pub at: usize,
 }
 
-// In memory of any arrangement: the words at its front, and the names from a place behind them on.
+// In memory of any arrangement: the words at its front, and the names from a place on.
 #[tactic(auto, unfolding(crate::specs::memory::Held::target_in))]
 pub fn path_target(
     at: &TextPosition,

@@ -20,7 +20,7 @@ module _ (s : Bytes) (i : ℕ) where
   pub next-within : get_or s i 0 ≡ next (drop i s)
   next-within = sym (get_or-drop i s 0 0 ∙ ap (λ (j : ℕ). get_or s j 0) (add-zero i))
 
-  next-beyond : length s ≤ i → 0 ≡ next (drop i s)
+  pub next-beyond : length s ≤ i → 0 ≡ next (drop i s)
   next-beyond h = sym (get_or-eq_default s 0 h) ∙ next-within
 
   -- a byte that is not 0 stands within the text

@@ -75,8 +75,8 @@ impl Kind {
     }
 }
 
-// How many formulas or terms follow a word as its parts. By tests of its tag and not by its kind: each word that is passed is asked, and to branch to
-// one of fourteen kinds takes a quarter more time where formulas are deep.
+// How many formulas or terms follow a word as its parts. By tests of its tag and not by its kind: each word that is passed is asked, and to branch by
+// fourteen tags takes a quarter more time where formulas are deep.
 #[tactic(auto, unfolding(crate::specs::memory::Kinds::kind_by))]
 pub fn parts_of(word: u32) -> usize
     ensures { (result ≡ part_count (kind_of word)) × (result < 4294967296) }
