@@ -45,26 +45,13 @@ fn behind(rest: &[u8], many: usize) -> &[u8]
     rest.get(many..).unwrap_or(&[])
 }
 
-// A number, from its first digit on. By hand: the library's `write!` takes twice as long, and a text may have some thirty thousand numbers.
-fn put_number(n: u32, out: &mut impl Write) -> Result<()> {
-    let mut unit: u32 = 1000000000;
-    // A `while`: the unit is a tenth at each turn.
-    while unit > 0 {
-        if n >= unit || unit == 1 {
-            out.write_all(&[b'0' + (n / unit % 10) as u8])?;
-        }
-        unit /= 10;
-    }
-    Ok(())
-}
-
 // The numbers from the first to the last, with commas between them; the first alone, where the last is not behind it.
 fn put_numbers(first: u32, last: u32, out: &mut impl Write) -> Result<()> {
     for n in first..=last.max(first) {
         if n > first {
             out.write_all(b",")?;
         }
-        put_number(n, out)?;
+        write!(out, "{n}")?;
     }
     Ok(())
 }
